@@ -1,0 +1,27 @@
+// Numbers in little-endian bytes.
+ghost use mathlib.Core.Path.{_≡_};
+ghost use mathlib.Core.List.{[], _∷_};
+ghost use Prim.Native.Nat.{_+_, _≤_};
+ghost use lib.ListN.{getD, length};
+ghost use Rattle.frames.specs.Bytes.{u16At, u16Bytes, u32At, u32Bytes};
+
+pub fn u16_at(bytes: &[u8], place: usize) -> u16
+    requires { ⌜ place + 2 ≤ length (now bytes) ⌝ }
+    ensures value { λ r. ⌜ r ≡ u16At (now (bytes .entry)) place ⌝ }
+    ensures bytes { λ r. ⌜ u16Bytes r ≡ getD (now (bytes .entry)) place 0 ∷ getD (now (bytes .entry)) (place + 1) 0 ∷ [] ⌝ }
+{
+    u16::from_le_bytes([bytes[place], bytes[place + 1]])
+}
+
+pub fn u32_at(bytes: &[u8], place: usize) -> u32
+    requires { ⌜ place + 4 ≤ length (now bytes) ⌝ }
+    ensures value { λ r. ⌜ r ≡ u32At (now (bytes .entry)) place ⌝ }
+    ensures bytes { λ r. ⌜ u32Bytes r ≡ getD (now (bytes .entry)) place 0 ∷ getD (now (bytes .entry)) (place + 1) 0 ∷ getD (now (bytes .entry)) (place + 2) 0 ∷ getD (now (bytes .entry)) (place + 3) 0 ∷ [] ⌝ }
+{
+    u32::from_le_bytes([
+        bytes[place],
+        bytes[place + 1],
+        bytes[place + 2],
+        bytes[place + 3],
+    ])
+}
