@@ -1,1 +1,3 @@
+mod Decoding
+mod Spelt
 mod Stages

@@ -37,4 +37,40 @@ impl<'a> Frame<'a> {
             Kind::MarkDone => Frame::MarkDone(body),
         }
     }
+
+    pub fn kind(&self) -> Kind
+        ensures { λ r. ⌜ r ≡ frameKind (now (self .entry)) ⌝ }
+    {
+        match self {
+            Frame::HandIn(_) => Kind::HandIn,
+            Frame::Advance(_) => Kind::Advance,
+            Frame::Fire(_) => Kind::Fire,
+            Frame::Send(_) => Kind::Send,
+            Frame::Lose(_) => Kind::Lose,
+            Frame::Repeat(_) => Kind::Repeat,
+            Frame::Deliver(_) => Kind::Deliver,
+            Frame::Pass(_) => Kind::Pass,
+            Frame::Restart(_) => Kind::Restart,
+            Frame::Show(_) => Kind::Show,
+            Frame::MarkDone(_) => Kind::MarkDone,
+        }
+    }
+
+    pub fn body(&self) -> &'a [u8]
+        ensures { λ r. ⌜ now r ≡ frameBody (now (self .entry)) ⌝ }
+    {
+        match self {
+            Frame::HandIn(body) => body,
+            Frame::Advance(body) => body,
+            Frame::Fire(body) => body,
+            Frame::Send(body) => body,
+            Frame::Lose(body) => body,
+            Frame::Repeat(body) => body,
+            Frame::Deliver(body) => body,
+            Frame::Pass(body) => body,
+            Frame::Restart(body) => body,
+            Frame::Show(body) => body,
+            Frame::MarkDone(body) => body,
+        }
+    }
 }

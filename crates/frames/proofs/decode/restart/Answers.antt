@@ -1,0 +1,6 @@
+use mathlib.Core.Path.{_≡_}
+use Rattle.frames.proofs.Spelt.{spelt-out}
+use Rattle.frames.proofs.decode.restart.Needs as need
+
+pub returns : need.returns
+returns c = let e = spelt-out (c .args .body .now) 7 (c .pre) in record { call = cc; back = cc }
