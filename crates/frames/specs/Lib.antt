@@ -3,3 +3,4 @@ pub mod Kinds
 pub mod Frames
 pub mod Calls
 pub mod Reading
+pub mod Handed

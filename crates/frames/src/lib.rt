@@ -12,6 +12,7 @@ mod reader;
 
 pub use frame::Frame;
 pub use kind::Kind;
+pub use reader::Event;
 pub use reader::Misfit;
 pub use reader::Placed;
 pub use reader::Reader;

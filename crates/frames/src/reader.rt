@@ -1,10 +1,12 @@
 // Hands out the frames of a script one after another.
 ghost use mathlib.Core.Path.{_≡_};
 ghost use lib.ListN.{drop};
-ghost use Rattle.frames.specs.Reading.{Begins, Names, handed, placeAfter, placeOf, scriptOf, standsAt};
+ghost use Rattle.frames.specs.Handed.{EventOffset, IfFramed, Offset, Whole, handed, handedCall, placeOf, scriptOf};
+ghost use Rattle.frames.specs.Reading.{callAt, nextPlace, standsAt};
 use super::fields::u16_at;
 use super::frame::Frame;
 use super::kind::Kind;
+use model::Call;
 use model::Fault;
 
 // A frame, and the offset of its header.
@@ -12,6 +14,13 @@ use model::Fault;
 pub struct Placed<'a> {
     pub offset: usize,
     pub frame: Frame<'a>,
+}
+
+// A call, and the offset of its frame.
+#[derive(Clone, Copy)]
+pub struct Event<'a> {
+    pub offset: usize,
+    pub call: Call<'a>,
 }
 
 // What is wrong with a frame, and the offset of its header.
@@ -35,13 +44,13 @@ impl<'a> Reader<'a> {
         Reader { script, at: 0 }
     }
 
-    // The next frame or what is wrong with it; `None` at the end. Nothing is read past a fault, so after one the end comes.
+    // The next frame or what is wrong with it; `None` at the end. Nothing is read past a fault, so the end follows it.
     pub fn next_frame(&mut self) -> Option<Result<Placed<'a>, Misfit>>
         ensures stands { λ r. ⌜ handed r ≡ standsAt (scriptOf (now (self .entry))) (placeOf (now (self .entry))) ⌝ }
-        ensures offset { λ r. ⌜ Names (placeOf (now (self .entry))) r ⌝ }
-        ensures bytes { λ r. ⌜ Begins (drop (placeOf (now (self .entry))) (scriptOf (now (self .entry)))) (handed r) ⌝ }
+        ensures offset { λ r. ⌜ Offset (placeOf (now (self .entry))) r ⌝ }
+        ensures whole { λ r. ⌜ IfFramed r (Whole (drop (placeOf (now (self .entry))) (scriptOf (now (self .entry))))) ⌝ }
         ensures script { λ _. ⌜ scriptOf (now (self .exit)) ≡ scriptOf (now (self .entry)) ⌝ }
-        ensures place { λ r. ⌜ placeOf (now (self .exit)) ≡ placeAfter (scriptOf (now (self .entry))) (placeOf (now (self .entry))) (handed r) ⌝ }
+        ensures place { λ _. ⌜ placeOf (now (self .exit)) ≡ nextPlace (scriptOf (now (self .entry))) (placeOf (now (self .entry))) ⌝ }
     {
         let offset = self.at;
         if offset >= self.script.len() {
@@ -77,5 +86,20 @@ impl<'a> Reader<'a> {
         self.at = offset + 4 + length;
         let frame = Frame::new(kind, body);
         Some(Ok(Placed { offset, frame }))
+    }
+    // The same, decoded.
+    pub fn next_call(&mut self) -> Option<Result<Event<'a>, Misfit>>
+        ensures call { λ r. ⌜ handedCall r ≡ callAt (scriptOf (now (self .entry))) (placeOf (now (self .entry))) ⌝ }
+        ensures offset { λ r. ⌜ EventOffset (placeOf (now (self .entry))) r ⌝ }
+        ensures script { λ _. ⌜ scriptOf (now (self .exit)) ≡ scriptOf (now (self .entry)) ⌝ }
+        ensures place { λ _. ⌜ placeOf (now (self .exit)) ≡ nextPlace (scriptOf (now (self .entry))) (placeOf (now (self .entry))) ⌝ }
+    {
+        match self.next_frame()? {
+            Ok(Placed { offset, frame }) => match frame.call() {
+                Ok(call) => Some(Ok(Event { offset, call })),
+                Err(fault) => Some(Err(Misfit { fault, offset })),
+            },
+            Err(misfit) => Some(Err(misfit)),
+        }
     }
 }
