@@ -34,6 +34,10 @@ first-four (a ∷ b ∷ []) n h = absurd (omega arith)
 first-four (a ∷ b ∷ c ∷ []) n h = absurd (omega arith)
 first-four (a ∷ b ∷ c ∷ d ∷ bs) n h = let e : 4 + n ≡ suc (suc (suc (suc n))) = omega arith in rw e
 
+-- how long that slice is
+pub rest-size : (s : List ℕ) (i : ℕ) → i < length s → length (take (length s - i) (drop i s)) + i ≡ length s
+rest-size s i h = omega (arith, ap length (take-rest s i), length-drop i s)
+
 -- the slice from a place on, as the checker reads it
 module _ (s : List ℕ) (i : ℕ) (rest : List ℕ) (inside : i < length s) (is : rest ≡ take (length s - i) (drop i s)) where
   pub rest-is : rest ≡ drop i s

@@ -1,6 +1,8 @@
 // Hands out the frames of a script one after another.
 ghost use mathlib.Core.Path.{_≡_};
-ghost use lib.ListN.{drop};
+ghost use Prim.Native.Nat.{_<_, _≤_};
+ghost use lib.ListN.{drop, length};
+ghost use Rattle.std.specs.Slices.{found};
 ghost use Rattle.frames.specs.Handed.{EventOffset, IfFramed, Offset, Whole, handed, handedCall, placeOf, scriptOf};
 ghost use Rattle.frames.specs.Reading.{callAt, nextPlace, standsAt};
 use super::fields::u16_at;
@@ -51,6 +53,7 @@ impl<'a> Reader<'a> {
         ensures whole { λ r. ⌜ IfFramed r (Whole (drop (placeOf (now (self .entry))) (scriptOf (now (self .entry))))) ⌝ }
         ensures script { λ _. ⌜ scriptOf (now (self .exit)) ≡ scriptOf (now (self .entry)) ⌝ }
         ensures place { λ _. ⌜ placeOf (now (self .exit)) ≡ nextPlace (scriptOf (now (self .entry))) (placeOf (now (self .entry))) ⌝ }
+        ensures forward { λ r. ⌜ found r (λ _. (placeOf (now (self .entry)) < placeOf (now (self .exit))) × (placeOf (now (self .exit)) ≤ length (scriptOf (now (self .entry))))) ⌝ }
     {
         let offset = self.at;
         if offset >= self.script.len() {
@@ -93,6 +96,7 @@ impl<'a> Reader<'a> {
         ensures offset { λ r. ⌜ EventOffset (placeOf (now (self .entry))) r ⌝ }
         ensures script { λ _. ⌜ scriptOf (now (self .exit)) ≡ scriptOf (now (self .entry)) ⌝ }
         ensures place { λ _. ⌜ placeOf (now (self .exit)) ≡ nextPlace (scriptOf (now (self .entry))) (placeOf (now (self .entry))) ⌝ }
+        ensures forward { λ r. ⌜ found r (λ _. (placeOf (now (self .entry)) < placeOf (now (self .exit))) × (placeOf (now (self .exit)) ≤ length (scriptOf (now (self .entry))))) ⌝ }
     {
         match self.next_frame()? {
             Ok(Placed { offset, frame }) => match frame.call() {

@@ -22,7 +22,10 @@ pub impl<'a> fmt::Display for Line<'a> as LineDisplay {
                 let serial = name.serial;
                 let time = name.time;
                 let amount = record.amount;
-                write!(f, "hand-in sender {sender} stop {stop} serial {serial} time {time} amount {amount}")
+                write!(
+                    f,
+                    "hand-in sender {sender} stop {stop} serial {serial} time {time} amount {amount}"
+                )
             }
             Call::Advance { time } => write!(f, "advance {time}"),
             Call::Fire { node } => write!(f, "fire {node}"),
@@ -31,7 +34,12 @@ pub impl<'a> fmt::Display for Line<'a> as LineDisplay {
             Call::Repeat { place } => write!(f, "repeat {place}"),
             Call::Deliver { place } => write!(f, "deliver {place}"),
             Call::Pass => write!(f, "pass"),
-            Call::Restart { node, left, tear, junk } => match junk {
+            Call::Restart {
+                node,
+                left,
+                tear,
+                junk,
+            } => match junk {
                 Junk::Fill(fill) => write!(f, "restart {node} left {left} tear {tear} fill {fill}"),
                 Junk::Page(_) => write!(f, "restart {node} left {left} tear {tear} page"),
             },
