@@ -1,3 +1,4 @@
 mod Decoding
+mod ReadingBack
 mod Spelt
 mod Stages

@@ -25,3 +25,17 @@ pub fn u32_at(bytes: &[u8], place: usize) -> u32
         bytes[place + 3],
     ])
 }
+
+pub fn u16_bytes(number: u16) -> [u8; 2]
+    ensures bytes { λ r. ⌜ r ≡ u16Bytes number ⌝ }
+    ensures back { λ r. ⌜ u16At r 0 ≡ number ⌝ }
+{
+    number.to_le_bytes()
+}
+
+pub fn u32_bytes(number: u32) -> [u8; 4]
+    ensures bytes { λ r. ⌜ r ≡ u32Bytes number ⌝ }
+    ensures back { λ r. ⌜ u32At r 0 ≡ number ⌝ }
+{
+    number.to_le_bytes()
+}

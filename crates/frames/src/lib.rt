@@ -9,6 +9,7 @@ mod fields;
 mod frame;
 mod kind;
 mod reader;
+mod writer;
 
 pub use frame::Frame;
 pub use kind::Kind;
@@ -16,3 +17,4 @@ pub use reader::Event;
 pub use reader::Misfit;
 pub use reader::Placed;
 pub use reader::Reader;
+pub use writer::write_frame;
