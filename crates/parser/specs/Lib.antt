@@ -1,3 +1,5 @@
 pub mod Fields
 pub mod Words
 pub mod Numerals
+pub mod Parsed
+pub mod Left

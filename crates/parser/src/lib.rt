@@ -1,6 +1,8 @@
 // Reads a line of text as a call. What was printed of a call is read back as that call.
 mod field;
 mod numeral;
+mod parse;
+mod taking;
 mod words;
 
 pub use field::Field;

@@ -3,6 +3,7 @@ ghost use mathlib.Core.Path.{_≡_};
 ghost use Prim.Native.Nat.{_≤_};
 ghost use lib.ListN.{length};
 ghost use Rattle.std.specs.shelf.Lists.{leading};
+ghost use Rattle.std.specs.shelf.Text.{sameBytes};
 ghost use Rattle.parser.specs.Words.{blank, restOf, solid, wordOf};
 use super::field::Field;
 
@@ -63,4 +64,10 @@ pub fn first_word(text: &[u8]) -> (&[u8], &[u8])
 {
     let (_, text) = text.split_at(blanks(text));
     text.split_at(solids(text))
+}
+
+pub fn same(word: &[u8], name: &[u8]) -> bool
+    ensures { λ r. ⌜ r ≡ sameBytes (now (word .entry)) (now (name .entry)) ⌝ }
+{
+    word == name
 }

@@ -8,14 +8,20 @@ use Rattle.parser.proofs.Digits.{no-digit, too-large, reads-on}
 use Rattle.parser.proofs.numeral.numeral.Needs as need
 
 pub returns-then-not-is-ascii-digit : need.returns-then-not-is-ascii-digit
-returns-then-not-is-ascii-digit c =
-    sym (c .loop-byte .inv .1 ∙ no-digit (c .args .most) (c .loop-byte .number) (c .args .word .now) (c .loop-byte .byte-index) (c .loop-byte-test .taken)
-    (sym (c .if-not-is-ascii-digit .ensures tt .value)))
+returns-then-not-is-ascii-digit c = record {
+  value =
+      sym (c .loop-byte .inv .1 ∙ no-digit (c .args .most) (c .loop-byte .number) (c .args .word .now) (c .loop-byte .byte-index) (c .loop-byte-test .taken)
+      (sym (c .if-not-is-ascii-digit .ensures tt .value)));
+  within = tt;
+}
 
 pub returns-then-number-from : need.returns-then-number-from
-returns-then-number-from c =
-    sym (c .loop-byte .inv .1 ∙ too-large (c .args .most) (c .loop-byte .number) (c .args .word .now) (c .loop-byte .byte-index) (c .loop-byte-test .taken)
-    (sym (c .if-not-is-ascii-digit .ensures tt .value)) (omega arith))
+returns-then-number-from c = record {
+  value =
+      sym (c .loop-byte .inv .1 ∙ too-large (c .args .most) (c .loop-byte .number) (c .args .word .now) (c .loop-byte .byte-index) (c .loop-byte-test .taken)
+      (sym (c .if-not-is-ascii-digit .ensures tt .value)) (omega arith));
+  within = tt;
+}
 
 pub loop-byte-again : need.loop-byte-again
 loop-byte-again c =
@@ -29,5 +35,8 @@ loop-byte-again c =
     )
 
 pub returns : need.returns
-returns c =
-    sym (c .loop-byte .inv .1 ∙ at-drop-all (numberFrom (c .args .most) (c .loop-byte .number)) (c .args .word .now) (c .loop-byte .byte-index) (c .loop-byte-test .left))
+returns c = record {
+  value =
+      sym (c .loop-byte .inv .1 ∙ at-drop-all (numberFrom (c .args .most) (c .loop-byte .number)) (c .args .word .now) (c .loop-byte .byte-index) (c .loop-byte-test .left));
+  within = c .loop-byte .inv .0;
+}
