@@ -1,5 +1,6 @@
 -- The number of each answer and of each fault. Assumes nothing.
 use Prim.Native.Nat.{ℕ}
+use mathlib.Core.Bool.{Bool, true, false}
 use Rattle.model.specs.declared.answer.Answer.{Answer}
 use Rattle.model.specs.declared.answer.Answer.the-variants.{Done, OutOfRange, Off, Late, Seen, Early, Over, Full, NoRoom, Cut, Nothing, LinkFull, NoMessage, NotOldest}
 use Rattle.model.specs.declared.answer.Outcome.{Outcome}
@@ -22,6 +23,23 @@ answerNumber Nothing = 10
 answerNumber LinkFull = 11
 answerNumber NoMessage = 12
 answerNumber NotOldest = 13
+
+-- an answer that is a refusal: nothing has happened
+abbrev pub refusal : Answer → Bool
+refusal Done = false
+refusal OutOfRange = true
+refusal Off = true
+refusal Late = true
+refusal Seen = true
+refusal Early = true
+refusal Over = true
+refusal Full = true
+refusal NoRoom = true
+refusal (Cut at) = false
+refusal Nothing = true
+refusal LinkFull = true
+refusal NoMessage = true
+refusal NotOldest = true
 
 -- a show that is done carries the production shown
 abbrev pub outcomeAnswer : Outcome → Answer

@@ -6,3 +6,4 @@ pub mod OnBytes
 pub mod Row
 pub mod Admission
 pub mod Junk
+pub mod Store

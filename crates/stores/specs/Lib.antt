@@ -1,0 +1,5 @@
+pub mod Tears
+pub mod Cards
+pub mod Promises
+pub mod Change
+pub mod Rows
