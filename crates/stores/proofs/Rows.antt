@@ -10,6 +10,9 @@ use Rattle.std.specs.Iters.{counting}
 use Rattle.std.proofs.shelf.Counted.{length-map-counting, getD-map-counting}
 use Rattle.std.proofs.shelf.Lists.{ext-getD, length-set, getD-set-same, getD-set-other, length-replicate, getD-replicate}
 use Rattle.std.proofs.shelf.Tests.{cases-eq}
+use mathlib.Core.Bool.{Bool}
+use Rattle.model.specs.Power.{Power}
+use Rattle.model.specs.Store.{Stored}
 use Rattle.stores.specs.Rows.{rowsBy}
 
 pub length-rows : (f : ℕ → List ℕ) (n : ℕ) → length (rowsBy f n) ≡ n
@@ -41,3 +44,9 @@ rows-new f g n r bytes l new others = rows-are g n (set (rowsBy f n) r bytes) (l
 pub rows-all : (f : ℕ → List ℕ) (n : ℕ) (bytes : List ℕ) → ((r : ℕ) → r < n → f r ≡ bytes) → rowsBy f n ≡ replicate n bytes
 rows-all f n bytes h =
     rows-are f n (replicate n bytes) (length-replicate n bytes) (λ r l. h r l ∙ sym (getD-replicate n r bytes [] l))
+
+-- rows and power are all that a store means
+pub same-stored : (rows rows′ : List (List ℕ)) (on on′ : Bool) (left left′ tear owed : ℕ) → rows ≡ rows′ → on ≡ on′ → left ≡ left′ →
+    _≡_ {A = Stored} (record { rows = rows; power = record { on = on; left = left; tear = tear; owed = owed } })
+    (record { rows = rows′; power = record { on = on′; left = left′; tear = tear; owed = owed } })
+same-stored rows rows′ on on′ left left′ tear owed p q r = cc

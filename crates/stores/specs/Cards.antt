@@ -9,6 +9,7 @@ use Rattle.model.specs.Limits.{pageBytes}
 use Rattle.model.specs.Store.{judged}
 use Rattle.model.specs.declared.answer.Answer.{Answer}
 use Rattle.model.specs.declared.answer.Answer.the-variants.{Done, Cut}
+use Rattle.model.specs.declared.answer.CutPoint.{CutPoint}
 use Rattle.stores.specs.declared.card.Card.{Card}
 use Rattle.stores.specs.Tears.{tearNumber}
 
@@ -55,8 +56,8 @@ failed m page bytes = record {
 }
 
 -- power lasts for a write
-abbrev pub stored : Medium → ℕ → List ℕ → Medium
-stored m page bytes = record {
+abbrev pub landed : Medium → ℕ → List ℕ → Medium
+landed m page bytes = record {
   pages = set (m .pages) page bytes;
   junk = m .junk;
   left = m .left - 1;
@@ -68,12 +69,16 @@ stored m page bytes = record {
 -- a write, to any card
 abbrev pub written : Medium → ℕ → List ℕ → Medium
 written m page bytes = cond (ltb page (length (m .pages)) && m .on)
-    (cond (ltb 0 (m .left)) (stored m page bytes) (failed m page bytes))
+    (cond (ltb 0 (m .left)) (landed m page bytes) (failed m page bytes))
     m
+
+-- where a write is cut
+abbrev pub cutAt : Medium → ℕ → ℕ → CutPoint
+cutAt m row page = record { node = m .node; row = row; page = page }
 
 abbrev pub writeAnswer : Medium → ℕ → ℕ → Answer
 writeAnswer m row page = judged (ltb page (length (m .pages))) (m .on)
-    (cond (ltb 0 (m .left)) Done (Cut (record { node = m .node; row = row; page = page })))
+    (cond (ltb 0 (m .left)) Done (Cut (cutAt m row page)))
 
 -- a write after which power still lasts
 abbrev pub lasts : Medium → ℕ → Bool

@@ -4,6 +4,7 @@ ghost use mathlib.Core.Bool.{true, false};
 ghost use mathlib.Core.List.{[]};
 ghost use Prim.Native.Nat.{_≤_, _<_};
 ghost use lib.ListN.{length, getD, replicate};
+ghost use lib.Dec.{eqb};
 ghost use Rattle.std.specs.Of.Vec.{vec-items};
 ghost use Rattle.std.specs.Options.{Cases};
 ghost use Rattle.std.specs.Vec.{made};
@@ -16,6 +17,24 @@ use std::alloc::AllocError;
 use std::alloc::Global;
 
 pub type Page = [u8; 512];
+
+// Bytes as a page, if there are as many as a page has.
+pub fn as_page(bytes: &[u8]) -> Option<&Page>
+    ensures { λ r. ⌜ Cases r (eqb (length (now (bytes .entry))) 512 ≡ false) (λ p. (now p ≡ now (bytes .entry)) × (eqb (length (now (bytes .entry))) 512 ≡ true)) ⌝ }
+{
+    if bytes.len() == 512 {
+        bytes.first_chunk::<512>()
+    } else {
+        None
+    }
+}
+
+// A card that a store cannot be made on, given back as it came.
+#[derive(Drop)]
+pub struct Unfit {
+    pub answer: Answer,
+    pub card: Card,
+}
 
 #[derive(Drop)]
 pub struct Card {

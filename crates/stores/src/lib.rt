@@ -6,6 +6,8 @@ mod tear;
 
 pub use card::Card;
 pub use card::Page;
+pub use card::Unfit;
+pub use card::as_page;
 pub use change::change_byte;
 pub use store::Store;
 pub use tear::Tear;

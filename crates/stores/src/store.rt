@@ -50,15 +50,15 @@ pub trait Store {
     fn read(&mut self, row: usize, out: &mut [u8]) -> Answer
         ensures reads { λ r. ⌜ (fit (now (self .entry)) → Reads (fit (now (self .exit))) (model (now (self .entry))) (model (now (self .exit))) row (now (out .entry)) (now (out .exit)) r) ⌝ }
         ensures cuts_stay { λ _. ⌜ (fit (now (self .entry)) → (commitCut (now (self .exit)) ≡ commitCut (now (self .entry))) × (restartCut (now (self .exit)) ≡ restartCut (now (self .entry)))) ⌝ }
-        ensures refusal_changes_nothing { λ r. ⌜ (refusal r ≡ true → now (self .exit) ≡ now (self .entry)) ⌝ };
+        ensures refusal_changes_nothing { λ r. ⌜ (fit (now (self .entry)) → refusal r ≡ true → now (self .exit) ≡ now (self .entry)) ⌝ };
 
     // Makes a row new: all of it or, where power fails, all of it or nothing.
     fn commit(&mut self, row: usize, bytes: &[u8]) -> Answer
         ensures commits { λ r. ⌜ (fit (now (self .entry)) → Commits (fit (now (self .exit))) cost turn (commitCut (now (self .entry)) row) (model (now (self .entry))) (model (now (self .exit))) row (now (bytes .entry)) r) ⌝ }
-        ensures refusal_changes_nothing { λ r. ⌜ (refusal r ≡ true → now (self .exit) ≡ now (self .entry)) ⌝ };
+        ensures refusal_changes_nothing { λ r. ⌜ (fit (now (self .entry)) → refusal r ≡ true → now (self .exit) ≡ now (self .entry)) ⌝ };
 
     // Turns the store on with power for so many writes, of which it takes those that it owes.
     fn restart(&mut self, left: u32, tear: u8, junk: &[u8]) -> Answer
         ensures restarts { λ r. ⌜ (fit (now (self .entry)) → Restarts (fit (now (self .exit))) (restartCut (now (self .entry)) left) (model (now (self .entry))) (model (now (self .exit))) left tear (now (junk .entry)) r) ⌝ }
-        ensures refusal_changes_nothing { λ r. ⌜ (refusal r ≡ true → now (self .exit) ≡ now (self .entry)) ⌝ };
+        ensures refusal_changes_nothing { λ r. ⌜ (fit (now (self .entry)) → refusal r ≡ true → now (self .exit) ≡ now (self .entry)) ⌝ };
 }

@@ -1,0 +1,3 @@
+pub mod Switching
+pub mod Committing
+pub mod Formatting

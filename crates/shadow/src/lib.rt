@@ -1,0 +1,4 @@
+// The shadow store.
+mod shadow;
+
+pub use shadow::Shadow;
