@@ -54,8 +54,8 @@ module _ (m : Medium) (r : ℕ) (bytes : List ℕ) (s : Sound m) (l : r < rowCou
       record {
         answer = answer-first m r (otherPage (m .pages) r) bytes 0 (switched (m .pages) r) in-card zero-in-card on h
             ∙ ap (λ p. Cut (cutAt m r p)) (sym page) ∙ sym (cond-false _ _ _ short);
-        means = ap meaning e ∙ same-stored _ _ _ _ _ _ (m .tear) 0
-            (slot-written (m .pages) r (torn m (otherPage (m .pages) r) bytes) ∙ sym (cond-false _ _ _ old)) (sym short) (omega arith);
+        means = ap meaning e ∙ same-stored _ _ _ _ _ _ (m .tear) (m .tear) 0
+            (slot-written (m .pages) r (torn m (otherPage (m .pages) r) bytes) ∙ sym (cond-false _ _ _ old)) (sym short) (omega arith) refl;
         sound = slot-sound m (after m r bytes) r (torn m (otherPage (m .pages) r) bytes) s (ap (λ (x : Medium). x .pages) e);
       }
 
@@ -93,9 +93,9 @@ module _ (m : Medium) (r : ℕ) (bytes : List ℕ) (s : Sound m) (l : r < rowCou
         let pages : after m r bytes .pages ≡ set (middle .pages) 0 (switched (m .pages) r) = ap (λ (x : Medium). x .pages) cut ∙ ap (set (middle .pages) 0) is in
         record {
           answer = answered;
-          means = ap meaning cut ∙ same-stored _ _ _ _ _ _ (m .tear) 0
+          means = ap meaning cut ∙ same-stored _ _ _ _ _ _ (m .tear) (m .tear) 0
               (ap (λ p. rowsBy (rowIn (set (middle .pages) 0 p)) rowCount) is ∙ page-switched (m .pages) r bytes l (s .sized) (s .wide) ∙ sym (cond-true _ _ _ new))
-              (sym short) (omega arith);
+              (sym short) (omega arith) refl;
           sound = switch-sound middle (after m r bytes) r middle-sound l (pages ∙ ap (set (middle .pages) 0) (sym switched-same));
         }
 
@@ -107,9 +107,9 @@ module _ (m : Medium) (r : ℕ) (bytes : List ℕ) (s : Sound m) (l : r < rowCou
         let same : set (middle .pages) 0 (torn middle 0 (switched (m .pages) r)) ≡ middle .pages = ap (set (middle .pages) 0) is ∙ set-getD (middle .pages) 0 [] in
         record {
           answer = answered;
-          means = ap meaning cut ∙ same-stored _ _ _ _ _ _ (m .tear) 0
+          means = ap meaning cut ∙ same-stored _ _ _ _ _ _ (m .tear) (m .tear) 0
               (ap (λ p. rowsBy (rowIn p) rowCount) same ∙ slot-written (m .pages) r bytes ∙ sym (cond-false _ _ _ old))
-              (sym short) (omega arith);
+              (sym short) (omega arith) refl;
           sound = slot-sound m (after m r bytes) r bytes s (ap (λ (x : Medium). x .pages) cut ∙ same);
         }
 
@@ -122,8 +122,8 @@ module _ (m : Medium) (r : ℕ) (bytes : List ℕ) (s : Sound m) (l : r < rowCou
       let long : leb 2 (m .left) ≡ true = le-leb 2 (m .left) h in
       record {
         answer = answer-done m r (otherPage (m .pages) r) bytes 0 (switched (m .pages) r) in-card zero-in-card on h ∙ sym (cond-true _ _ _ long);
-        means = ap meaning e ∙ same-stored _ _ _ _ _ _ (m .tear) 0
-            (page-switched (m .pages) r bytes l (s .sized) (s .wide) ∙ sym (cond-true _ _ _ (or-left _ _ long))) (on ∙ sym long) (omega arith);
+        means = ap meaning e ∙ same-stored _ _ _ _ _ _ (m .tear) (m .tear) 0
+            (page-switched (m .pages) r bytes l (s .sized) (s .wide) ∙ sym (cond-true _ _ _ (or-left _ _ long))) (on ∙ sym long) (omega arith) refl;
         sound = switch-sound middle (after m r bytes) r middle-sound l (ap (λ (x : Medium). x .pages) e ∙ ap (set (middle .pages) 0) (sym switched-same));
       }
 

@@ -38,6 +38,6 @@ module _ (node : ℕ) where
   pub formatted : (m : Medium) → m ≡ blank → Formatted node m
   formatted m e = record {
     blank = e;
-    means = ap meaning e ∙ same-stored _ _ false false 0 0 0 0 (rows-all (rowIn (blank .pages)) rowCount zeroPage row-zero) refl refl;
+    means = ap meaning e ∙ same-stored _ _ false false 0 0 0 0 0 (rows-all (rowIn (blank .pages)) rowCount zeroPage row-zero) refl refl refl;
     sound = subst Sound (sym e) blank-sound;
   }

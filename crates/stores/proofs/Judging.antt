@@ -5,7 +5,7 @@ use mathlib.Core.Path.{_≡_, refl, sym, ap, _∙_}
 use mathlib.Core.Bool.{Bool, true, false, cond, _&&_}
 use mathlib.Core.List.{List, []}
 use lib.ListN.{length, getD, set}
-use lib.Dec.{ltb}
+use lib.Dec.{ltb, leb}
 use Rattle.std.proofs.shelf.Tests.{cond-true, cond-false, and-from, and-left, and-right, lt-ltb, le-ltb, eq-eqb, ne-eqb, both-ways}
 use Rattle.model.specs.Answers.{refusal}
 use Rattle.model.specs.Limits.{pageBytes}
@@ -14,6 +14,9 @@ use Rattle.model.specs.Store.{Stored, rowFits, restartFits}
 use Rattle.model.specs.declared.answer.Answer.{Answer}
 use Rattle.model.specs.declared.answer.Answer.the-variants.{Done, OutOfRange, Off, Cut}
 use Rattle.model.specs.declared.answer.CutPoint.{CutPoint}
+use Rattle.stores.specs.Tears.{tearNumber}
+use Rattle.stores.specs.declared.tear.Tear.{Tear}
+use Rattle.stores.specs.declared.tear.Tear.the-variants.{Old, New, Junk}
 use Rattle.stores.specs.Promises.{Reads, Commits, Restarts}
 
 module _ {Fit : Type 0} (fits : Fit) (s : Stored) (row : ℕ) (bytes : List ℕ) where
@@ -85,3 +88,9 @@ module _ (s : Stored) (n row : ℕ) (bytes : List ℕ) (e : length (s .rows) ≡
 pub no-refusal : (b : Bool) (p : CutPoint) (r : Answer) → r ≡ cond b Done (Cut p) → refusal r ≡ true → ⊥
 no-refusal true p r e h = both-ways (refusal r) (ap refusal e) h
 no-refusal false p r e h = both-ways (refusal r) (ap refusal e) h
+
+-- every tear has a number up to 2
+pub tear-fits : (t : Tear) → leb (tearNumber t) 2 ≡ true
+tear-fits Old = refl
+tear-fits New = refl
+tear-fits Junk = refl

@@ -46,7 +46,7 @@ rows-all f n bytes h =
     rows-are f n (replicate n bytes) (length-replicate n bytes) (λ r l. h r l ∙ sym (getD-replicate n r bytes [] l))
 
 -- rows and power are all that a store means
-pub same-stored : (rows rows′ : List (List ℕ)) (on on′ : Bool) (left left′ tear owed : ℕ) → rows ≡ rows′ → on ≡ on′ → left ≡ left′ →
+pub same-stored : (rows rows′ : List (List ℕ)) (on on′ : Bool) (left left′ tear tear′ owed : ℕ) → rows ≡ rows′ → on ≡ on′ → left ≡ left′ → tear ≡ tear′ →
     _≡_ {A = Stored} (record { rows = rows; power = record { on = on; left = left; tear = tear; owed = owed } })
-    (record { rows = rows′; power = record { on = on′; left = left′; tear = tear; owed = owed } })
-same-stored rows rows′ on on′ left left′ tear owed p q r = cc
+    (record { rows = rows′; power = record { on = on′; left = left′; tear = tear′; owed = owed } })
+same-stored rows rows′ on on′ left left′ tear tear′ owed p q r t = cc

@@ -1,0 +1,5 @@
+pub mod Marking
+pub mod Committing
+pub mod Restarting
+pub mod Formatting
+pub mod Promising

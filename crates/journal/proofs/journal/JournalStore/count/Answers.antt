@@ -1,0 +1,10 @@
+-- There are as many rows as the store says.
+use mathlib.Core.Path.{sym}
+use Rattle.stores.proofs.Rows.{length-rows}
+use Rattle.journal.specs.Layout.{rowCount, rowIn}
+use Rattle.std.specs.Of.Vec.{vec-items}
+use Rattle.stores.specs.Cards.{medium}
+use Rattle.journal.proofs.journal.JournalStore.count.Needs as need
+
+pub returns : need.returns
+returns c = sym (length-rows (rowIn (medium (c .args .self .now .card) .pages)) rowCount)

@@ -1,0 +1,4 @@
+// The journal store.
+mod journal;
+
+pub use journal::Journal;
