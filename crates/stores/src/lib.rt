@@ -1,4 +1,7 @@
-// Stores and the card under them.
+// Rows that survive a power cut at any write.
+//
+// `card` is the medium, pages and the power that writes them, and `tear` what a failing write leaves. `store` says what
+// a store is: rows of 512 bytes and power, whatever the card under it goes through. `change` uses any store.
 mod card;
 mod change;
 mod store;
