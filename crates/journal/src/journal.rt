@@ -104,7 +104,7 @@ pub impl Store for Journal as JournalStore {
         if row >= ROWS || out.len() != 512 {
             return Answer::OutOfRange;
         }
-        if !self.card.is_on() {
+        if !self.is_on() {
             return Answer::Off;
         }
         let Some(page) = self.card.page(2 + row as u8) else {
@@ -125,7 +125,7 @@ pub impl Store for Journal as JournalStore {
         if row >= ROWS {
             return Answer::OutOfRange;
         }
-        if !self.card.is_on() {
+        if !self.is_on() {
             return Answer::Off;
         }
         let row = row as u8;

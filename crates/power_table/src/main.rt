@@ -52,7 +52,12 @@ fn shadow(rt: &LibcRuntime) -> Result<Shadow, AnyError> {
 
 fn main(rt: LibcRuntime) -> Result<(), AnyError> {
     tables(&rt, "journal", &mut journal(&rt)?, 2)?;
-    tables(&rt, "cache over journal", &mut Cached::new(journal(&rt)?), 2)?;
+    tables(
+        &rt,
+        "cache over journal",
+        &mut Cached::new(journal(&rt)?),
+        2,
+    )?;
     tables(&rt, "shadow", &mut shadow(&rt)?, 1)?;
     tables(&rt, "cache over shadow", &mut Cached::new(shadow(&rt)?), 1)
 }

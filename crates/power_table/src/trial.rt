@@ -6,9 +6,13 @@ use stores::Store;
 use stores::change_byte;
 
 const ROW: usize = 5;
+
 const LAST: usize = 511;
+
 const NINE: u8 = 9;
+
 const OLD: Page = [1; 512];
+
 const JUNK: Page = [238; 512];
 
 #[derive(Clone, Copy)]
@@ -64,7 +68,12 @@ fn look<S: Store>(store: &mut S, answer: Answer) -> Seen {
     } else {
         Row::Other
     };
-    Seen { answer, on, owed, row }
+    Seen {
+        answer,
+        on,
+        owed,
+        row,
+    }
 }
 
 pub fn after_commit<S: Store>(store: &mut S, left: u32, tear: u8) -> Seen {

@@ -19,6 +19,8 @@ use stores::as_page;
 const ROWS: usize = 33;
 
 const PAGES: usize = 67;
+// A restart has nothing to write.
+const OWED: u32 = 0;
 
 #[derive(Drop)]
 pub struct Shadow {
@@ -70,14 +72,14 @@ pub impl Store for Shadow as ShadowStore {
     }
 
     fn owed(&self) -> u32 {
-        0
+        OWED
     }
 
     fn read(&mut self, row: usize, out: &mut [u8]) -> Answer {
         if row >= ROWS || out.len() != 512 {
             return Answer::OutOfRange;
         }
-        if !self.card.is_on() {
+        if !self.is_on() {
             return Answer::Off;
         }
         let Some(flags) = self.card.page(0) else {
@@ -98,7 +100,7 @@ pub impl Store for Shadow as ShadowStore {
         if row >= ROWS {
             return Answer::OutOfRange;
         }
-        if !self.card.is_on() {
+        if !self.is_on() {
             return Answer::Off;
         }
         let Some(flags) = self.card.page(0) else {
