@@ -1,0 +1,3 @@
+pub mod Listing
+pub mod Counting
+pub mod Adding
