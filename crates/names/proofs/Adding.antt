@@ -33,6 +33,18 @@ with-held h s n e = fun-ext (λ t. fun-ext (λ k. at t k))
           | inr other ↦ ap (λ b. b || h t k) other
         ]
 
+-- a table that has put in what it did not hold
+pub added-done : {Fit : Type 0} (m after : Meaning) (s : ℕ) (n : Name) → Fit → m .holds s n ≡ false → m .size < mostTaken → after .holds ≡ with-name (m .holds) s n → after .size ≡ m .size + 1 → Added Fit m s n Done after
+added-done m after s n f none few held one =
+    let below = lt-ltb (m .size) mostTaken few in
+    record {
+      fit = f;
+      answer = sym (cond-false (m .holds s n) Seen (cond (ltb (m .size) mostTaken) Done Full) none ∙ cond-true (ltb (m .size) mostTaken) Done Full below);
+      means =
+          (λ i. record { holds = held i; size = one i })
+          ∙ sym (cond-false (m .holds s n) m (cond (ltb (m .size) mostTaken) (grown m s n) m) none ∙ cond-true (ltb (m .size) mostTaken) (grown m s n) m below);
+    }
+
 -- an add that found room, or the name
 pub added-holds : (m : Meaning) (s : ℕ) (n : Name) → (addAnswer m s n ≡ Full → ⊥) → afterAdd m s n .holds ≡ with-name (m .holds) s n
 added-holds m s n room =

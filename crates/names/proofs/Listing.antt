@@ -7,7 +7,7 @@ use Prim.Native.Nat.{ℕ, zero, suc, _+_, _<_, _≤_}
 use native.Mathlib.Omega.{arith}
 use lib.Dec.{eqb}
 use lib.ListN.{length, getD}
-use Rattle.std.proofs.shelf.Tests.{and-parts, and-from, or-cases, or-left, or-right, eqb-true, eq-eqb, cases-bool, both-ways}
+use Rattle.std.proofs.shelf.Tests.{and-parts, and-from, and-left, and-right, or-cases, or-left, or-right, eqb-true, eq-eqb, cases-bool, both-ways}
 use Rattle.model.specs.declared.record.Name.{Name}
 use Rattle.names.specs.declared.taken.Taken.{Taken}
 use Rattle.names.specs.Held.{sameName, sameTaken, listed}
@@ -61,3 +61,23 @@ at-listed [] s n k d l e = absurd (omega arith)
 at-listed (x ∷ xs) s n zero d l e =
     or-left _ _ (subst (λ y. sameTaken y s n ≡ true) (sym e) (is-same s n))
 at-listed (x ∷ xs) s n (suc k) d l e = or-right _ _ (at-listed xs s n k d (omega arith) e)
+
+-- names that all pass a test, or all fail it, as a filter by the test sees them
+pub all-pass : (keep : Taken → Bool) (xs : List Taken) → ((k : ℕ) (d : Taken) → k < length xs → keep (getD xs k d) ≡ true) → (s : ℕ) (n : Name) → listed xs s n ≡ (listed xs s n && keep (taken s n))
+all-pass keep xs f s n =
+    elim (cases-bool (listed xs s n)) [
+      | inl e ↦
+          let at = listed-at xs s n e in
+          let pass : keep (taken s n) ≡ true = subst (λ p. keep p ≡ true) (at .2 (taken s n)) (f (at .0) (taken s n) (at .1)) in
+          e ∙ sym (and-from _ _ e pass)
+      | inr e ↦ e ∙ sym (and-left _ (keep (taken s n)) e)
+    ]
+
+pub none-pass : (keep : Taken → Bool) (xs : List Taken) → ((k : ℕ) (d : Taken) → k < length xs → keep (getD xs k d) ≡ false) → (s : ℕ) (n : Name) → (listed xs s n && keep (taken s n)) ≡ false
+none-pass keep xs f s n =
+    elim (cases-bool (listed xs s n)) [
+      | inl e ↦
+          let at = listed-at xs s n e in
+          and-right (listed xs s n) _ (subst (λ p. keep p ≡ false) (at .2 (taken s n)) (f (at .0) (taken s n) (at .1)))
+      | inr e ↦ and-left _ (keep (taken s n)) e
+    ]

@@ -1,0 +1,4 @@
+pub mod Ordered
+pub mod Closing
+pub mod Climbing
+pub mod Dropping
