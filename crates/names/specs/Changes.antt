@@ -6,6 +6,7 @@ use lib.Dec.{eqb, ltb}
 use Rattle.model.specs.declared.answer.Answer.{Answer}
 use Rattle.model.specs.declared.answer.Answer.the-variants.{Done, Seen, Full}
 use Rattle.model.specs.declared.record.Name.{Name}
+use Rattle.names.specs.declared.taken.Taken.{Taken}
 use Rattle.names.specs.Held.{Meaning, mostTaken, sameName}
 
 -- seen if it is held, full if so many others are
@@ -24,9 +25,13 @@ grown m s n = record { holds = with-name (m .holds) s n; size = m .size + 1 }
 abbrev pub afterAdd : Meaning → ℕ → Name → Meaning
 afterAdd m s n = cond (m .holds s n) m (cond (ltb (m .size) mostTaken) (grown m s n) m)
 
+-- this is one of the stop's names below the floor
+abbrev pub isBelow : ℕ → ℕ → Taken → Bool
+isBelow s floor p = eqb (p .stop) s && ltb (p .name .time) floor
+
 -- held, and not one of the stop's names below the floor
 abbrev pub without-below : (ℕ → Name → Bool) → ℕ → ℕ → ℕ → Name → Bool
-without-below h s floor = λ t k. h t k && not (eqb t s && ltb (k .time) floor)
+without-below h s floor = λ t k. h t k && not (isBelow s floor (record { stop = t; name = k }))
 
 -- nothing is held
 abbrev pub nothing : Meaning

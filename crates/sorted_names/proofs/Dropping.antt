@@ -15,13 +15,13 @@ use Rattle.std.proofs.shelf.Ways.{tells}
 use Rattle.model.specs.declared.record.Name.{Name}
 use Rattle.names.specs.declared.taken.Taken.{Taken}
 use Rattle.names.specs.Held.{listed}
-use Rattle.names.specs.Changes.{without-below}
+use Rattle.names.specs.Changes.{isBelow, without-below}
 use Rattle.names.proofs.Listing.{taken, listed-append, all-pass, none-pass}
 use Rattle.sorted_names.specs.Order.{first, before, firstAt, Splits}
 
 -- not one of the stop's names below the floor
 abbrev keep : ℕ → ℕ → Taken → Bool
-keep s floor p = not (eqb (p .stop) s && ltb (p .name .time) floor)
+keep s floor p = not (isBelow s floor p)
 
 keep-below : (s floor : ℕ) (p : Taken) → before p (firstAt s 0) ≡ true → keep s floor p ≡ true
 keep-below s floor p h = grind (arith, tells)

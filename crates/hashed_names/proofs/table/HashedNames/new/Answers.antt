@@ -1,0 +1,5 @@
+use Rattle.hashed_names.proofs.Keeping.{cleared}
+use Rattle.hashed_names.proofs.table.HashedNames.new.Needs as need
+
+pub returns : need.returns
+returns c = cleared 2048 (c .in-Continue-places .ensures tt)
