@@ -1,0 +1,34 @@
+-- What becomes of a record, and of a due, at a state of any computation. Assumes nothing.
+use Prim.Native.Nat.{ℕ, _≤_, _<_, min}
+use mathlib.Core.Path.{_≡_}
+use mathlib.Core.Bool.{Bool}
+use Rattle.std.specs.declared.option.Option.{Option}
+use Rattle.std.specs.declared.option.Option.the-variants.{Some, None}
+use Rattle.model.specs.Limits.{lastTime}
+use Rattle.model.specs.Admission.{judged}
+use Rattle.model.specs.Computation.{Computation, Upto}
+use Rattle.model.specs.declared.record.Record.{Record}
+use Rattle.model.specs.declared.answer.Answer.{Answer}
+use Rattle.model.specs.declared.answer.Answer.the-variants.{Done}
+
+module _ {S : Type 0} (c : Computation S) (Sound : S → Type 0) where
+  -- a record that is admitted is taken, and the state after it is sound
+  pub record Taken (s : S) (on : Bool) (w : ℕ) (seen : Bool) (r : Record) (n : S × Option (ℕ × ℕ)) : Type 0 where
+    pub admitted : judged c s on w seen r ≡ Done
+    pub after : n ≡ c .take s w (r .name .time) (r .amount)
+    pub sound : Sound (n .0)
+
+  -- any other is refused, with the answer that the order of admission gives
+  pub record Refused (s : S) (on : Bool) (w : ℕ) (seen : Bool) (r : Record) (a : Answer) : Type 0 where
+    pub answer : a ≡ judged c s on w seen r
+    pub refused : a ≡ Done → ⊥
+
+  -- a due that the watermark has reached is fired, and the state after it is sound
+  pub record Fired (s : S) (w : ℕ) (n : S × Option (ℕ × ℕ)) : Type 0 where
+    pub due : (d : ℕ) × (c .due s ≡ Some d) × (d ≤ w) × (d ≤ lastTime)
+    pub after : n ≡ c .fire s
+    pub sound : Sound (n .0)
+
+  -- no due is reached
+  abbrev pub Quiet : S → ℕ → Type 0
+  Quiet s w = (d : ℕ) → c .due s ≡ Some d → min w lastTime < d
