@@ -1,1 +1,2 @@
 mod Loaded
+pub mod Places

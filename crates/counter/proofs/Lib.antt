@@ -1,0 +1,4 @@
+pub mod Opened
+pub mod Steps
+pub mod Stored
+pub mod Laws

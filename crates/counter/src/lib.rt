@@ -1,0 +1,8 @@
+// The counter.
+mod counter;
+mod minutes;
+mod state;
+
+pub use counter::Counter;
+pub use counter::CounterComputation;
+pub use state::CounterState;
