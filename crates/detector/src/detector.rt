@@ -1,0 +1,107 @@
+// The detector as a computation.
+ghost use mathlib.Core.Path.{_≡_};
+ghost use Rattle.detector.specs.Detector.{detector as detecting, DetectorSound};
+use super::prediction::is_spike;
+use super::prediction::moved_to;
+use super::state::DetectorState;
+use computations::Computation;
+use model::Verdict;
+
+#[derive(Clone, Copy)]
+pub struct Detector;
+
+pub impl Computation for Detector as DetectorComputation {
+    type State = DetectorState;
+
+    ghost operations = { detecting };
+
+    ghost sound = { DetectorSound };
+
+    fn mark(state: &DetectorState) -> u32 {
+        state.mark
+    }
+
+    fn due(_state: &DetectorState) -> Option<u32> {
+        None
+    }
+
+    fn verdict(state: &DetectorState, _w: u32, _time: u32, amount: u16) -> Verdict {
+        if state.total > u32::MAX - u32::from(amount) {
+            Verdict::TooMuch
+        } else {
+            Verdict::Fine
+        }
+    }
+
+    fn take(
+        state: &DetectorState,
+        _w: u32,
+        time: u32,
+        amount: u16,
+    ) -> (DetectorState, Option<(u32, u16)>) {
+        let emission = if is_spike(state.predicted, amount) {
+            Some((time, amount))
+        } else {
+            None
+        };
+        let after = DetectorState {
+            predicted: moved_to(state.predicted, amount),
+            total: state.total + u32::from(amount),
+            mark: time,
+        };
+        (after, emission)
+    }
+
+    fn fire(state: &DetectorState) -> (DetectorState, Option<(u32, u16)>) {
+        (*state, None)
+    }
+
+    fn load(bytes: &[u8; 32]) -> DetectorState {
+        let [a, b, c, d, e, f, g, h, i, j, k, l, ..] = *bytes;
+        DetectorState {
+            predicted: u32::from_le_bytes([a, b, c, d]).min(1_048_560),
+            total: u32::from_le_bytes([e, f, g, h]),
+            mark: u32::from_le_bytes([i, j, k, l]).min(4_000_000_000),
+        }
+    }
+
+    fn store(state: &DetectorState) -> [u8; 32] {
+        let [a, b, c, d] = state.predicted.to_le_bytes();
+        let [e, f, g, h] = state.total.to_le_bytes();
+        let [i, j, k, l] = state.mark.to_le_bytes();
+        [
+            a,
+            b,
+            c,
+            d,
+            e,
+            f,
+            g,
+            h,
+            i,
+            j,
+            k,
+            l,
+            0,
+            0,
+            0,
+            0,
+            0,
+            0,
+            0,
+            0,
+            0,
+            0,
+            0,
+            0,
+            0,
+            0,
+            0,
+            0,
+            0,
+            0,
+            0,
+            0,
+        ]
+    }
+}
