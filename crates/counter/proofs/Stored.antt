@@ -45,7 +45,7 @@ small-rest s i bs h = joined IsByte (omega arith) (u16Bytes (getD (s .sums) i 0)
 
 pub stored-bytes : (s : CounterState) → StateBytes (counterStore s)
 stored-bytes s =
-    let r = replicate 20 0 in
+    let r : List ℕ = replicate 20 0 in
     record {
       size = refl;
       small =

@@ -1,11 +1,12 @@
 // The counter as a computation.
 ghost use mathlib.Core.Path.{_≡_};
-ghost use Rattle.counter.specs.Counter.{counter as counting, CounterSound};
+ghost use Rattle.counter.specs.Counter.{counter as counting, CounterSound, held as holding};
 use super::minutes::earliest_minute;
 use super::minutes::raised_mark;
 use super::minutes::sum_of;
 use super::state::CounterState;
 use computations::Computation;
+use computations::Conserving;
 use model::Verdict;
 
 #[derive(Clone, Copy)]
@@ -119,5 +120,14 @@ pub impl Computation for Counter as CounterComputation {
             0,
             0,
         ]
+    }
+}
+
+pub impl Conserving for Counter as CounterConserving {
+    ghost holds = { holding };
+
+    fn held(state: &CounterState) -> u32 {
+        let [a, b, c, d] = state.sums;
+        u32::from(a) + u32::from(b) + u32::from(c) + u32::from(d)
     }
 }

@@ -5,4 +5,5 @@ mod state;
 
 pub use counter::Counter;
 pub use counter::CounterComputation;
+pub use counter::CounterConserving;
 pub use state::CounterState;

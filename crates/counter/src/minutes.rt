@@ -6,14 +6,14 @@ ghost use Rattle.counter.specs.Counter.{sumOf, earliest, raised, Earliest, Emp
 use super::state::CounterState;
 
 // The sum of a minute.
-pub fn sum_of(state: &CounterState, minute: u32) -> u16
+pub(super) fn sum_of(state: &CounterState, minute: u32) -> u16
     ensures { λ r. ⌜ r ≡ sumOf (now (state .entry)) minute ⌝ }
 {
     state.sums[(minute % 4) as usize]
 }
 
 // The earliest open minute with a sum.
-pub fn earliest_minute(state: &CounterState) -> Option<u32>
+pub(super) fn earliest_minute(state: &CounterState) -> Option<u32>
     ensures value { λ r. ⌜ r ≡ earliest (now (state .entry)) ⌝ }
     ensures first { λ r. ⌜ Cases r (Empty (now (state .entry)) (now (state .entry) .mark / 60) 4) (Earliest (now (state .entry)) (now (state .entry) .mark / 60) 4) ⌝ }
 {
@@ -27,7 +27,7 @@ pub fn earliest_minute(state: &CounterState) -> Option<u32>
 }
 
 // The mark from which a take at a watermark begins: it passes empty minutes only.
-pub fn raised_mark(state: &CounterState, w: u32) -> u32
+pub(super) fn raised_mark(state: &CounterState, w: u32) -> u32
     ensures { λ r. ⌜ r ≡ raised (now (state .entry)) w ⌝ }
 {
     let reached = match earliest_minute(state) {

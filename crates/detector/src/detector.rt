@@ -5,6 +5,7 @@ use super::prediction::is_spike;
 use super::prediction::moved_to;
 use super::state::DetectorState;
 use computations::Computation;
+use computations::Totalling;
 use model::Verdict;
 
 #[derive(Clone, Copy)]
@@ -103,5 +104,13 @@ pub impl Computation for Detector as DetectorComputation {
             0,
             0,
         ]
+    }
+}
+
+pub impl Totalling for Detector as DetectorTotalling {
+    ghost totals = { λ s. s .total };
+
+    fn total(state: &DetectorState) -> u32 {
+        state.total
     }
 }

@@ -5,4 +5,5 @@ mod state;
 
 pub use detector::Detector;
 pub use detector::DetectorComputation;
+pub use detector::DetectorTotalling;
 pub use state::DetectorState;

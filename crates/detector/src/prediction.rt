@@ -4,7 +4,7 @@ ghost use mathlib.Core.Path.{_≡_};
 ghost use Rattle.detector.specs.Detector.{moved, spike, mostPredicted};
 
 // The prediction after an amount: a quarter of the way to it, rounded toward zero also on the way down.
-pub fn moved_to(predicted: u32, amount: u16) -> u32
+pub(super) fn moved_to(predicted: u32, amount: u16) -> u32
     requires { ⌜ predicted ≤ mostPredicted ⌝ }
     ensures { λ r. ⌜ r ≡ moved predicted amount ⌝ }
 {
@@ -14,7 +14,7 @@ pub fn moved_to(predicted: u32, amount: u16) -> u32
 }
 
 // Whether an amount is at least ten and at least twice what was predicted.
-pub fn is_spike(predicted: u32, amount: u16) -> bool
+pub(super) fn is_spike(predicted: u32, amount: u16) -> bool
     ensures { λ r. ⌜ r ≡ spike predicted amount ⌝ }
 {
     amount >= 10 && 16 * u64::from(amount) >= 2 * u64::from(predicted)
