@@ -7,6 +7,8 @@ mod call;
 mod record;
 
 pub use answer::Answer;
+pub use answer::AnswerDebug;
+pub use answer::AnswerPartialEq;
 pub use answer::CutPoint;
 pub use answer::Fault;
 pub use answer::Outcome;

@@ -1,7 +1,3 @@
-// Trials of whatever takes any computation.
-mod eager;
-mod state;
-
-pub use eager::Eager;
-pub use eager::EagerComputation;
-pub use state::EagerState;
+// Stories of three computations, run through the code that serves every one.
+#[cfg(test)]
+mod tests;

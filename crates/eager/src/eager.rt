@@ -1,6 +1,6 @@
 // A third computation, as unpleasant as the laws allow: whatever holds for every computation has to hold for it.
 ghost use mathlib.Core.Path.{_≡_};
-ghost use Rattle.trials.specs.Eager.{eager as eagerly, EagerSound};
+ghost use Rattle.eager.specs.Eager.{eager as eagerly, EagerSound};
 use super::state::EagerState;
 use computations::Computation;
 use model::Verdict;
@@ -33,7 +33,12 @@ pub impl Computation for Eager as EagerComputation {
         }
     }
 
-    fn take(state: &EagerState, _w: u32, time: u32, _amount: u16) -> (EagerState, Option<(u32, u16)>) {
+    fn take(
+        state: &EagerState,
+        _w: u32,
+        time: u32,
+        _amount: u16,
+    ) -> (EagerState, Option<(u32, u16)>) {
         let due = match state.due {
             Some(due) => Some(due.min(time)),
             None => Some(time),
@@ -46,7 +51,13 @@ pub impl Computation for Eager as EagerComputation {
             Some(due) => state.mark.max(due),
             None => state.mark,
         };
-        (EagerState { mark, due: state.due }, Some((mark, 65_535)))
+        (
+            EagerState {
+                mark,
+                due: state.due,
+            },
+            Some((mark, 65_535)),
+        )
     }
 
     fn load(bytes: &[u8; 32]) -> EagerState {
@@ -67,6 +78,39 @@ pub impl Computation for Eager as EagerComputation {
             None => (0, 0),
         };
         let [e, f, g, h] = due.to_le_bytes();
-        [a, b, c, d, some, e, f, g, h, 0, 0, 0, 0, 0, 0, 0, 0, 0, 0, 0, 0, 0, 0, 0, 0, 0, 0, 0, 0, 0, 0, 0]
+        [
+            a,
+            b,
+            c,
+            d,
+            some,
+            e,
+            f,
+            g,
+            h,
+            0,
+            0,
+            0,
+            0,
+            0,
+            0,
+            0,
+            0,
+            0,
+            0,
+            0,
+            0,
+            0,
+            0,
+            0,
+            0,
+            0,
+            0,
+            0,
+            0,
+            0,
+            0,
+            0,
+        ]
     }
 }

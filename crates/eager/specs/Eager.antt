@@ -13,7 +13,7 @@ use Rattle.model.specs.Limits.{lastTime, mostAmount}
 use Rattle.model.specs.declared.answer.Verdict.{Verdict}
 use Rattle.model.specs.declared.answer.Verdict.the-variants.{TooEarly, TooMuch, Fine}
 use Rattle.computations.specs.Bytes.{u32At, u32Bytes}
-use Rattle.trials.specs.declared.state.EagerState.{EagerState}
+use Rattle.eager.specs.declared.state.EagerState.{EagerState}
 
 abbrev pub eagerVerdict : EagerState → ℕ → ℕ → ℕ → Verdict
 eagerVerdict s w t a = cond (eqb (t % 7) 6) TooEarly (cond (eqb a 13) TooMuch Fine)
