@@ -1,6 +1,6 @@
 -- Numbers read back from their bytes, and lists in which every place keeps a bound.
 use Prim.Native.Nat.{ℕ, zero, suc, _+_, _*_, _/_, _%_, _≤_, _<_}
-use mathlib.Core.Path.{_≡_, refl, sym, ap, _∙_}
+use mathlib.Core.Path.{_≡_, refl, sym, ap, subst, _∙_}
 use mathlib.Core.List.{List, [], _∷_, _++_}
 use native.Mathlib.Omega.{arith}
 use native.Mathlib.Nat.{div-div-eq-div-mul}
@@ -22,6 +22,18 @@ u32-back n h =
     let k : n / 65536 % 256 + n / 16777216 % 256 * 256 ≡ n / 65536 =
     ap (λ (x : ℕ). n / 65536 % 256 + x % 256 * 256) (sym a) ∙ two-bytes (n / 65536) ∙ b in
     omega arith
+
+-- a list of n is its n places
+abbrev pub first : ℕ → (ℕ → ℕ) → List ℕ
+first zero f = []
+first (suc n) f = f 0 ∷ first n (λ i. f (suc i))
+
+pub all-places : (n : ℕ) (xs : List ℕ) → length xs ≡ n → first n (λ i. getD xs i 0) ≡ xs
+all-places n xs h = subst (λ (k : ℕ). first k (λ i. getD xs i 0) ≡ xs) h (whole xs)
+  where
+    whole : (ys : List ℕ) → first (length ys) (λ i. getD ys i 0) ≡ ys
+    whole [] = refl
+    whole (y ∷ ys) = ap (λ (l : List ℕ). y ∷ l) (whole ys)
 
 module _ (P : ℕ → Type 0) (z : P 0) where
   -- every place, also past the end, where 0 stands

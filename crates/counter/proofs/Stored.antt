@@ -7,21 +7,9 @@ use lib.ListN.{length, getD, replicate}
 use Rattle.model.specs.Limits.{lastTime, mostAmount}
 use Rattle.model.specs.Computation.{StateBytes}
 use Rattle.computations.specs.Bytes.{u16At, u32At, u16Bytes, u32Bytes}
-use Rattle.computations.proofs.Places.{u16-back, u32-back, u16-small, u32-small, u16-fits, IsByte, each-place, joined, zeros}
+use Rattle.computations.proofs.Places.{u16-back, u32-back, u16-small, u32-small, u16-fits, IsByte, all-places, each-place, joined, zeros}
 use Rattle.counter.specs.Counter.{CounterSound, counterStore, counterLoad}
 use Rattle.counter.specs.declared.state.CounterState.{CounterState}
-
--- a list of four is its four places
-pub four-places
-    : (xs : List ℕ)
-    → length xs ≡ 4
-    → (getD xs 0 0 ∷ getD xs 1 0 ∷ getD xs 2 0 ∷ getD xs 3 0 ∷ []) ≡ xs
-four-places [] h = absurd (omega arith)
-four-places (a ∷ []) h = absurd (omega arith)
-four-places (a ∷ b ∷ []) h = absurd (omega arith)
-four-places (a ∷ b ∷ c ∷ []) h = absurd (omega arith)
-four-places (a ∷ b ∷ c ∷ d ∷ []) h = refl
-four-places (a ∷ b ∷ c ∷ d ∷ e ∷ xs) h = absurd (omega arith)
 
 abbrev AnAmount : ℕ → Type 0
 AnAmount n = n ≤ mostAmount
@@ -57,6 +45,7 @@ pub back : (s : CounterState) → CounterSound s → counterLoad (counterStore s
 back s h =
     let x = u32-back (s .mark) (omega (arith, h .time)) in
     let m : 60 * (min (u32At (u32Bytes (s .mark)) 0) lastTime / 60) ≡ s .mark = omega (arith, x, h .minute, h .time) in
+    let four : (getD (s .sums) 0 0 ∷ getD (s .sums) 1 0 ∷ getD (s .sums) 2 0 ∷ getD (s .sums) 3 0 ∷ []) ≡ s .sums = all-places 4 (s .sums) (h .four) in
     let n : (i : ℕ) → u16At (u16Bytes (getD (s .sums) i 0)) 0 ≡ getD (s .sums) i 0 = λ i. u16-back _ (omega (arith, h .small i)) in
     ap (λ (k : ℕ). record { mark = k; sums = counterLoad (counterStore s) .sums }) m ∙
-    ap (λ (l : List ℕ). record { mark = s .mark; sums = l }) (cc (n 0, n 1, n 2, n 3, four-places (s .sums) (h .four)))
+    ap (λ (l : List ℕ). record { mark = s .mark; sums = l }) (cc (n 0, n 1, n 2, n 3, four))

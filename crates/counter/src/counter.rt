@@ -1,6 +1,8 @@
 // The counter as a computation.
 ghost use mathlib.Core.Path.{_≡_};
 ghost use Rattle.counter.specs.Counter.{counter as counting, CounterSound, held as holding};
+use super::layout::loaded;
+use super::layout::stored;
 use super::minutes::earliest_minute;
 use super::minutes::raised_mark;
 use super::minutes::sum_of;
@@ -66,60 +68,11 @@ pub impl Computation for Counter as CounterComputation {
     }
 
     fn load(bytes: &[u8; 32]) -> CounterState {
-        let [a, b, c, d, e, f, g, h, i, j, k, l, ..] = *bytes;
-        let mark = u32::from_le_bytes([a, b, c, d]).min(4_000_000_000);
-        let sums = [
-            u16::from_le_bytes([e, f]),
-            u16::from_le_bytes([g, h]),
-            u16::from_le_bytes([i, j]),
-            u16::from_le_bytes([k, l]),
-        ];
-        CounterState {
-            mark: 60 * (mark / 60),
-            sums,
-        }
+        loaded(bytes)
     }
 
     fn store(state: &CounterState) -> [u8; 32] {
-        let [a, b, c, d] = state.mark.to_le_bytes();
-        let [e, f] = state.sums[0].to_le_bytes();
-        let [g, h] = state.sums[1].to_le_bytes();
-        let [i, j] = state.sums[2].to_le_bytes();
-        let [k, l] = state.sums[3].to_le_bytes();
-        [
-            a,
-            b,
-            c,
-            d,
-            e,
-            f,
-            g,
-            h,
-            i,
-            j,
-            k,
-            l,
-            0,
-            0,
-            0,
-            0,
-            0,
-            0,
-            0,
-            0,
-            0,
-            0,
-            0,
-            0,
-            0,
-            0,
-            0,
-            0,
-            0,
-            0,
-            0,
-            0,
-        ]
+        stored(state)
     }
 }
 

@@ -1,6 +1,8 @@
 // The detector as a computation.
 ghost use mathlib.Core.Path.{_≡_};
 ghost use Rattle.detector.specs.Detector.{detector as detecting, DetectorSound};
+use super::layout::loaded;
+use super::layout::stored;
 use super::prediction::is_spike;
 use super::prediction::moved_to;
 use super::state::DetectorState;
@@ -58,52 +60,11 @@ pub impl Computation for Detector as DetectorComputation {
     }
 
     fn load(bytes: &[u8; 32]) -> DetectorState {
-        let [a, b, c, d, e, f, g, h, i, j, k, l, ..] = *bytes;
-        DetectorState {
-            predicted: u32::from_le_bytes([a, b, c, d]).min(1_048_560),
-            total: u32::from_le_bytes([e, f, g, h]),
-            mark: u32::from_le_bytes([i, j, k, l]).min(4_000_000_000),
-        }
+        loaded(bytes)
     }
 
     fn store(state: &DetectorState) -> [u8; 32] {
-        let [a, b, c, d] = state.predicted.to_le_bytes();
-        let [e, f, g, h] = state.total.to_le_bytes();
-        let [i, j, k, l] = state.mark.to_le_bytes();
-        [
-            a,
-            b,
-            c,
-            d,
-            e,
-            f,
-            g,
-            h,
-            i,
-            j,
-            k,
-            l,
-            0,
-            0,
-            0,
-            0,
-            0,
-            0,
-            0,
-            0,
-            0,
-            0,
-            0,
-            0,
-            0,
-            0,
-            0,
-            0,
-            0,
-            0,
-            0,
-            0,
-        ]
+        stored(state)
     }
 }
 

@@ -1,8 +1,9 @@
 // A third computation, as unpleasant as the laws allow: whatever holds for every computation has to hold for it.
 ghost use mathlib.Core.Path.{_≡_};
-ghost use Rattle.eager.specs.Eager.{eager as eagerly, EagerSound};
+ghost use Rattle.eager.specs.Eager.{eager as eagerly, EagerSound, eagerStore};
 use super::state::EagerState;
 use computations::Computation;
+use computations::padded;
 use model::Verdict;
 
 #[derive(Clone, Copy)]
@@ -72,45 +73,18 @@ pub impl Computation for Eager as EagerComputation {
     }
 
     fn store(state: &EagerState) -> [u8; 32] {
-        let [a, b, c, d] = state.mark.to_le_bytes();
-        let (some, due) = match state.due {
-            Some(due) => (1, due),
-            None => (0, 0),
-        };
-        let [e, f, g, h] = due.to_le_bytes();
-        [
-            a,
-            b,
-            c,
-            d,
-            some,
-            e,
-            f,
-            g,
-            h,
-            0,
-            0,
-            0,
-            0,
-            0,
-            0,
-            0,
-            0,
-            0,
-            0,
-            0,
-            0,
-            0,
-            0,
-            0,
-            0,
-            0,
-            0,
-            0,
-            0,
-            0,
-            0,
-            0,
-        ]
+        stored(state)
     }
+}
+
+fn stored(state: &EagerState) -> [u8; 32]
+    ensures { λ r. ⌜ r ≡ eagerStore (now (state .entry)) ⌝ }
+{
+    let [a, b, c, d] = state.mark.to_le_bytes();
+    let (t, due) = match state.due {
+        Some(due) => (1, due),
+        None => (0, 0),
+    };
+    let [e, f, g, h] = due.to_le_bytes();
+    padded([a, b, c, d, t, e, f, g, h, 0, 0, 0])
 }
