@@ -1,0 +1,5 @@
+mod Lists
+mod EntryLoops
+mod Encoding
+mod Places
+mod RowBytes

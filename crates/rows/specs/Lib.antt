@@ -1,0 +1,5 @@
+pub mod Bounded
+pub mod Bytes
+pub mod Layout
+pub mod Reading
+pub mod Meaning
