@@ -3,3 +3,5 @@ mod EntryLoops
 mod Encoding
 mod Places
 mod RowBytes
+mod Keeping
+mod WatermarkBytes

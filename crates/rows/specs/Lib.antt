@@ -3,3 +3,4 @@ pub mod Bytes
 pub mod Layout
 pub mod Reading
 pub mod Meaning
+pub mod Edits

@@ -1,9 +1,16 @@
 // Numbers and other bytes at a place of a row.
 ghost use mathlib.Core.Path.{_≡_};
-ghost use Prim.Native.Nat.{ℕ, _+_, _≤_, _<_};
+ghost use Prim.Native.Nat.{ℕ, _+_, _^_, _≤_, _<_};
 ghost use lib.ListN.{length, getD};
 ghost use lib.Seq.{paste};
-ghost use Rattle.rows.specs.Bytes.{number2, number4};
+ghost use Rattle.rows.specs.Bytes.{bytes4, number2, number4};
+
+pub(crate) fn bytes4_of(number: u32) -> [u8; 4]
+    ensures fits { λ _. ⌜ number < 2 ^ 32 ⌝ }
+    ensures bytes { λ r. ⌜ r ≡ bytes4 number ⌝ }
+{
+    number.to_le_bytes()
+}
 
 pub(crate) fn number2_at(bytes: &[u8], at: usize) -> u16
     requires { ⌜ at + 2 ≤ length (now bytes) ⌝ }

@@ -1,16 +1,19 @@
 // A row of a stop as its 512 bytes, and back.
+ghost use mathlib.Core.Bool.{true};
 ghost use mathlib.Core.List.{[], _∷_, _++_};
 ghost use mathlib.Core.Path.{_≡_};
 ghost use Prim.Native.Nat.{_<_, _^_};
-ghost use Rattle.std.specs.Options.{mapped};
+ghost use Rattle.std.specs.Options.{isSome, mapped};
 ghost use Rattle.std.specs.Slices.{found};
 ghost use Rattle.std.specs.declared.option.Option.the-variants.{Some};
 ghost use Rattle.model.specs.Row.{Row};
 ghost use Rattle.rows.specs.Bytes.{bytes4};
+ghost use Rattle.rows.specs.Edits.{staying};
 ghost use Rattle.rows.specs.Layout.{encoded, RowFits};
 ghost use Rattle.rows.specs.Meaning.{rowOf};
 ghost use Rattle.rows.specs.Reading.{rowIn, LaidOut};
 use super::StopRow;
+use crate::bytes::bytes4_of;
 use crate::bytes::number4_at;
 use crate::bytes::put;
 use crate::entries::STATE_AT;
@@ -24,7 +27,7 @@ fn head(next: u32, pending: u8, names: u8) -> [u8; 8]
     ensures fits { λ _. ⌜ next < 2 ^ 32 ⌝ }
     ensures bytes { λ r. ⌜ r ≡ bytes4 next ++ pending ∷ names ∷ 0 ∷ 0 ∷ [] ⌝ }
 {
-    let [n0, n1, n2, n3] = next.to_le_bytes();
+    let [n0, n1, n2, n3] = bytes4_of(next);
     [n0, n1, n2, n3, pending, names, 0, 0]
 }
 
@@ -65,7 +68,7 @@ impl StopRow {
 
     // The row that has these bytes; none if no row has.
     pub fn decode(bytes: &[u8; 512]) -> Option<StopRow>
-        ensures encoding { λ r. ⌜ found r (λ row. encoded (rowOf row) ≡ now (bytes .entry)) ⌝ }
+        ensures encoding { λ r. ⌜ found r (λ row. RowFits (rowOf row) × (encoded (rowOf row) ≡ now (bytes .entry))) ⌝ }
         ensures decodes { λ r. ⌜ ((row : Row) → RowFits row → encoded row ≡ now (bytes .entry) → mapped rowOf r ≡ Some row) ⌝ }
     {
         let row = StopRow::read(bytes);
@@ -73,6 +76,17 @@ impl StopRow {
             Some(row)
         } else {
             None
+        }
+    }
+
+    // How many names stay for a floor in the row that has these bytes; none if no row has.
+    pub fn staying_in(bytes: &[u8; 512], floor: u32) -> Option<usize>
+        ensures row { λ r. ⌜ (isSome r ≡ true → (row : Row) × RowFits row × (encoded row ≡ now (bytes .entry))) ⌝ }
+        ensures counts { λ r. ⌜ ((row : Row) → RowFits row → encoded row ≡ now (bytes .entry) → r ≡ Some (staying floor row)) ⌝ }
+    {
+        match StopRow::decode(bytes) {
+            Some(row) => Some(row.staying(floor)),
+            None => None,
         }
     }
 }

@@ -12,7 +12,7 @@ use Rattle.rows.proofs.stop_row.StopRow.decode.Needs as need
 pub returns-then-eq : need.returns-then-eq
 returns-then-eq c =
     record {
-      encoding = sym (c .encode .ensures .bytes) ∙ matches-decides _ _ (c .eq .result) (c .eq .ensures) .0 (c .if-eq .taken);
+      encoding = (c .encode .ensures .fits, sym (c .encode .ensures .bytes) ∙ matches-decides _ _ (c .eq .result) (c .eq .ensures) .0 (c .if-eq .taken));
       decodes = λ row f e. ap Some (c .read-row .ensures ∙ ap rowIn (sym e) ∙ row-back row f);
     }
 

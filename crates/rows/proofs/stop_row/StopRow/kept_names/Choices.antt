@@ -1,0 +1,8 @@
+use mathlib.Core.Path.{_≡_}
+use lib.ListN.{take}
+use Rattle.rows.specs.Bounded.{listed}
+use Rattle.rows.specs.Edits.{kept}
+use Rattle.rows.proofs.stop_row.StopRow.kept_names.Given as given
+
+abbrev pub Inv-loop-name : given.InvT-loop-name
+Inv-loop-name l = listed (l .list) ≡ kept (l .floor) (take (l .name-index) (l .names))
