@@ -1,4 +1,3 @@
-mod Lists
 mod EntryLoops
 mod Encoding
 mod Places

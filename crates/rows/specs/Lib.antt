@@ -1,4 +1,3 @@
-pub mod Bounded
 pub mod Bytes
 pub mod Layout
 pub mod Reading

@@ -1,6 +1,6 @@
 -- The row that a typed row stands for. Assumes nothing.
 use Rattle.model.specs.Row.{Row}
-use Rattle.rows.specs.Bounded.{listed}
+use Rattle.bounded.specs.Lists.{listed}
 use Rattle.rows.specs.declared.stop_row.StopRow.{StopRow}
 
 abbrev pub rowOf : StopRow → Row

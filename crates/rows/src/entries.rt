@@ -7,13 +7,13 @@ ghost use lib.Seq.{paste};
 ghost use Rattle.std.specs.shelf.Lists.{joined};
 ghost use Rattle.model.specs.declared.record.Name.{Name};
 ghost use Rattle.model.specs.declared.record.Production.{Production};
-ghost use Rattle.rows.specs.Bounded.{listed};
+ghost use Rattle.bounded.specs.Lists.{listed};
 ghost use Rattle.rows.specs.Layout.{pendingBytes, nameBytes, pendingAt, namesAt, pendingSize, nameSize, PendingFits, NameFits};
 ghost use Rattle.rows.specs.Reading.{productionIn, nameIn, pendingIn, namesIn};
-use crate::bounded::Bounded;
 use crate::bytes::number2_at;
 use crate::bytes::number4_at;
 use crate::bytes::put;
+use bounded::Bounded;
 use model::Name;
 use model::Production;
 

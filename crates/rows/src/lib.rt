@@ -2,12 +2,10 @@
 //
 // `encode` gives exactly the defined bytes, and `decode` gives a row back exactly if it has these bytes, so that whoever
 // reads and writes rows speaks of what they say and never of bytes. The steps by which a row changes are equations.
-mod bounded;
 mod bytes;
 mod entries;
 mod stop_row;
 mod watermark_row;
 
-pub use bounded::Bounded;
 pub use stop_row::StopRow;
 pub use watermark_row::WatermarkRow;

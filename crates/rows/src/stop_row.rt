@@ -3,9 +3,11 @@ ghost use mathlib.Core.Path.{_≡_};
 ghost use lib.ListN.{length};
 
 mod codec;
-mod edits;
+mod fields;
+mod names;
+mod pending;
 
-use crate::bounded::Bounded;
+use bounded::Bounded;
 use model::Name;
 use model::Production;
 

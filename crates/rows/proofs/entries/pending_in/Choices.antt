@@ -2,7 +2,7 @@ use Prim.Native.Nat.{_+_, _*_}
 use mathlib.Core.List.{map}
 use mathlib.Core.Path.{_≡_}
 use Rattle.std.specs.Iters.{counting}
-use Rattle.rows.specs.Bounded.{listed}
+use Rattle.bounded.specs.Lists.{listed}
 use Rattle.rows.specs.Layout.{pendingAt, pendingSize}
 use Rattle.rows.specs.Reading.{productionIn}
 use Rattle.rows.proofs.entries.pending_in.Given as given

@@ -1,6 +1,6 @@
 use mathlib.Core.Path.{_≡_}
 use lib.ListN.{take}
-use Rattle.rows.specs.Bounded.{listed}
+use Rattle.bounded.specs.Lists.{listed}
 use Rattle.rows.specs.Edits.{kept}
 use Rattle.rows.proofs.stop_row.StopRow.kept_names.Given as given
 

@@ -6,7 +6,7 @@ use lib.Dec.{ltb}
 use borrow.Author.Needs.{needs}
 use borrow.Author.Tests.{lt-ltb}
 use Rattle.std.proofs.shelf.Lists.{take-more-set, length-take-le}
-use Rattle.rows.proofs.bounded.Bounded.push.Needs as need
+use Rattle.bounded.proofs.list.Bounded.push.Needs as need
 
 pub returns : need.returns
 returns g c =

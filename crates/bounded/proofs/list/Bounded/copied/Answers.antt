@@ -3,8 +3,8 @@ use mathlib.Core.Path.{sym, ap, _∙_}
 use native.Mathlib.Omega.{arith}
 use lib.ListN.{take}
 use Rattle.std.proofs.shelf.Lists.{take-all}
-use Rattle.rows.proofs.Lists.{pushed-more}
-use Rattle.rows.proofs.bounded.Bounded.copied.Needs as need
+use Rattle.bounded.proofs.Cuts.{pushed-more}
+use Rattle.bounded.proofs.list.Bounded.copied.Needs as need
 
 pub loop-item-holds : need.loop-item-holds
 loop-item-holds g c = c .new-list .ensures ∙ sym (take-all (g .N) [] (omega arith))

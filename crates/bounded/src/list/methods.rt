@@ -5,7 +5,7 @@ ghost use mathlib.Core.Path.{_≡_};
 ghost use Prim.Native.Nat.{_≤_};
 ghost use lib.Dec.{ltb};
 ghost use lib.ListN.{length, take};
-ghost use Rattle.rows.specs.Bounded.{listed};
+ghost use Rattle.bounded.specs.Lists.{listed};
 use super::Bounded;
 
 impl<T: Copy, const N: usize> Bounded<T, N> {
