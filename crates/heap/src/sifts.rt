@@ -5,7 +5,7 @@ ghost use Rattle.std.specs.Keys.{Total};
 ghost use Rattle.std.specs.Slices.{Shuffled};
 ghost use Rattle.heap.specs.Heaps.{Heaped, HeapedFrom, HeapedBut, OverChildren, UnderParent, Tells, LeastChild};
 
-fn is_below<T: Ord>(items: &[T], a: usize, b: usize) -> bool
+pub(crate) fn is_below<T: Ord>(items: &[T], a: usize, b: usize) -> bool
     requires { ⌜ a < length (now items) ⌝ ∗ ⌜ b < length (now items) ⌝ }
     ensures { λ r. ⌜ Tells (T·Ord .orders) (now (items .entry)) a b r ⌝ }
 {
