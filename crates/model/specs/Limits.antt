@@ -36,6 +36,6 @@ mostMessages = 16
 abbrev pub pageBytes : ℕ
 pageBytes = 512
 
--- a record that may be handed in: its stop and its time exist, and it says how many
+-- a record that may be handed in: its stop and its time exist, and its amount is at least 1 and no larger than the largest
 abbrev pub inRange : Record → Bool
-inRange r = ltb (r .stop) stops && (leb (r .name .time) lastTime && ltb 0 (r .amount))
+inRange r = ltb (r .stop) stops && (leb (r .name .time) lastTime && (ltb 0 (r .amount) && leb (r .amount) mostAmount))

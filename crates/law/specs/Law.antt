@@ -1,0 +1,69 @@
+-- The law: what holds at every moment of every run from a new pair. Assumes nothing.
+use Prim.Native.Nat.{ℕ, _+_, _≤_, _<_}
+use mathlib.Core.Path.{_≡_}
+use mathlib.Core.Bool.{Bool, true, false}
+use mathlib.Core.List.{List, [], _∷_, _++_, map}
+use Rattle.model.specs.Computation.{StateBytes, Conserves, Totals}
+use Rattle.model.specs.declared.record.Production.{Production}
+use Rattle.model.specs.declared.record.Record.{Record}
+use Rattle.law.specs.Lists.{Mem, Apart, total}
+use Rattle.law.specs.Node.{Node, Keeps}
+use Rattle.law.specs.Pair.{Kits, Pair, lowWatermark}
+use Rattle.law.specs.Rows.{floorOf}
+use Rattle.law.specs.Run.{Event, Run, moments, allTaken, taken, made, landed, waiting}
+use Rattle.law.specs.Stops.{sumStops}
+
+-- the queue holds exactly the stops with something pending, each once
+pub record Queued (n : Node) : Type 0 where
+  pub once : Apart (n .queue)
+  pub pending : (s : ℕ) → Mem s (n .queue) → (s < 32) × (n .row s .pending ≡ [] → ⊥)
+  pub all : (s : ℕ) → s < 32 → (n .row s .pending ≡ [] → ⊥) → Mem s (n .queue)
+
+pub record Law (kits : Kits) (es : List Event) (p : Pair) : Type 0 where
+  -- no record name was taken twice for one stop by the collector
+  pub names-once : (s : ℕ) → Apart (map (λ r. r .name) (taken kits s es))
+  -- for each stop, what the spotter took, then what is waiting, is in order all that the collector made
+  pub in-order : (s : ℕ) → landed kits s es ++ waiting kits s es p ≡ made kits s es
+  -- and no serial comes twice among them
+  pub serials-once : (s : ℕ) → Apart (map (λ x. x .serial) (made kits s es))
+  -- the low watermark is not below what it was at any earlier moment
+  pub never-falls : (q : Pair) → Mem q (moments es p) → lowWatermark kits q ≤ lowWatermark kits p
+  -- no waiting production is late at the spotter
+  pub none-late : (s : ℕ) (x : Production) → Mem x (waiting kits s es p) → floorOf (kits .spotter .computation) (p .spotter .w) (p .spotter .row s .state) ≤ x .time
+  -- while the collector is on, its queue holds exactly the stops with something pending, each once
+  pub queued : p .collector .power .on ≡ true → Queued (p .collector)
+
+-- at every moment of a run
+abbrev pub Throughout : (List Event → Pair → Type 0) → List Event → Pair → Type 0
+Throughout Holds [] p = Holds [] p
+Throughout Holds (e ∷ es) p = Throughout Holds es (e .before) × Holds (e ∷ es) p
+
+-- the law of every run, for any two computations that keep their laws and any two stores
+abbrev pub Every-run : Type 0
+Every-run =
+    (kits : Kits) → Keeps (kits .collector) → Keeps (kits .spotter) →
+    (es : List Event) (p : Pair) → Run kits es p → Throughout (Law kits) es p
+
+-- the amounts of all records taken by the collector
+abbrev pub takenAmount : Kits → List Event → ℕ
+takenAmount kits es = total (map (λ r. r .amount) (allTaken kits es))
+
+-- what a measure makes of all states of a node
+abbrev pub measured : (List ℕ → ℕ) → Node → ℕ
+measured f n = sumStops (λ s. f (n .row s .state))
+
+-- the amounts of all waiting productions
+abbrev pub waitingAmount : Kits → List Event → Pair → ℕ
+waitingAmount kits es p = sumStops (λ s. total (map (λ x. x .amount) (waiting kits s es p)))
+
+-- what the collector took is what its states hold open, what is waiting, and what has landed in the spotter's totals
+abbrev pub Counted : Kits → (List ℕ → ℕ) → (List ℕ → ℕ) → List Event → Pair → Type 0
+Counted kits held landed es p =
+    takenAmount kits es ≡ (measured held (p .collector) + waitingAmount kits es p) + measured landed (p .spotter)
+
+-- the count, for computations with the law of weight
+abbrev pub Every-count : Type 0
+Every-count =
+    (kits : Kits) → Keeps (kits .collector) → Keeps (kits .spotter) →
+    (held landed : List ℕ → ℕ) → Conserves (kits .collector .computation) StateBytes held → Totals (kits .spotter .computation) StateBytes landed →
+    (es : List Event) (p : Pair) → Run kits es p → Throughout (Counted kits held landed) es p

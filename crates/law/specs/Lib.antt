@@ -1,0 +1,7 @@
+pub mod Lists
+pub mod Rows
+pub mod Stops
+pub mod Node
+pub mod Pair
+pub mod Run
+pub mod Law

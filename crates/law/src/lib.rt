@@ -1,0 +1,4 @@
+// The law.
+pub fn nothing() -> u8 {
+    0
+}
