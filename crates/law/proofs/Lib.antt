@@ -1,1 +1,7 @@
-mod Trial
+mod Lists
+mod World
+mod Moves
+mod Rows
+mod Lines
+mod Steps
+mod Moved

@@ -4,6 +4,7 @@ use mathlib.Core.Path.{_≡_}
 use mathlib.Core.Bool.{Bool, true, false}
 use mathlib.Core.List.{List, [], _∷_, _++_, map}
 use Rattle.model.specs.Computation.{StateBytes, Conserves, Totals}
+use Rattle.model.specs.Limits.{stops}
 use Rattle.model.specs.declared.record.Production.{Production}
 use Rattle.model.specs.declared.record.Record.{Record}
 use Rattle.law.specs.Lists.{Mem, Apart, total}
@@ -16,20 +17,20 @@ use Rattle.law.specs.Stops.{sumStops}
 -- the queue holds exactly the stops with something pending, each once
 pub record Queued (n : Node) : Type 0 where
   pub once : Apart (n .queue)
-  pub pending : (s : ℕ) → Mem s (n .queue) → (s < 32) × (n .row s .pending ≡ [] → ⊥)
-  pub all : (s : ℕ) → s < 32 → (n .row s .pending ≡ [] → ⊥) → Mem s (n .queue)
+  pub pending : (s : ℕ) → Mem s (n .queue) → (s < stops) × (n .row s .pending ≡ [] → ⊥)
+  pub all : (s : ℕ) → s < stops → (n .row s .pending ≡ [] → ⊥) → Mem s (n .queue)
 
 pub record Law (kits : Kits) (es : List Event) (p : Pair) : Type 0 where
   -- no record name was taken twice for one stop by the collector
-  pub names-once : (s : ℕ) → Apart (map (λ r. r .name) (taken kits s es))
+  pub names-once : (s : ℕ) → s < stops → Apart (map (λ r. r .name) (taken kits s es))
   -- for each stop, what the spotter took, then what is waiting, is in order all that the collector made
-  pub in-order : (s : ℕ) → landed kits s es ++ waiting kits s es p ≡ made kits s es
+  pub in-order : (s : ℕ) → s < stops → landed kits s es ++ waiting kits s es p ≡ made kits s es
   -- and no serial comes twice among them
-  pub serials-once : (s : ℕ) → Apart (map (λ x. x .serial) (made kits s es))
+  pub serials-once : (s : ℕ) → s < stops → Apart (map (λ x. x .serial) (made kits s es))
   -- the low watermark is not below what it was at any earlier moment
   pub never-falls : (q : Pair) → Mem q (moments es p) → lowWatermark kits q ≤ lowWatermark kits p
   -- no waiting production is late at the spotter
-  pub none-late : (s : ℕ) (x : Production) → Mem x (waiting kits s es p) → floorOf (kits .spotter .computation) (p .spotter .w) (p .spotter .row s .state) ≤ x .time
+  pub none-late : (s : ℕ) (x : Production) → s < stops → Mem x (waiting kits s es p) → floorOf (kits .spotter .computation) (p .spotter .w) (p .spotter .row s .state) ≤ x .time
   -- while the collector is on, its queue holds exactly the stops with something pending, each once
   pub queued : p .collector .power .on ≡ true → Queued (p .collector)
 
