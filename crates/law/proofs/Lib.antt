@@ -5,3 +5,7 @@ mod Rows
 mod Lines
 mod Steps
 mod Moved
+mod Judged
+mod Next
+mod Best
+mod Collector
