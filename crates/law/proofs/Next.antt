@@ -109,7 +109,7 @@ module _ (kits : Kits) (es : List Event) (p : Pair) where
       (λ s. landedAs (wrote (kits .spotter) (p .spotter .power) (outcomeAnswer (r .0))) s deed)
       (r .1 .collector .w) (r .1 .spotter .w) (r .1 .link)
 
-  took-none : (s : ℕ) (T : List Record) → T ≡ [] → kept-by (λ r. eqb (r .stop) s) (allTaken kits es ++ T) ≡ taken kits s es
+  pub took-none : (s : ℕ) (T : List Record) → T ≡ [] → kept-by (λ r. eqb (r .stop) s) (allTaken kits es ++ T) ≡ taken kits s es
   took-none s T e =
       ap (λ xs. kept-by (λ r. eqb (r .stop) s) (allTaken kits es ++ xs)) e ∙ ap (λ xs. kept-by (λ r. eqb (r .stop) s) xs) (append-nil (allTaken kits es))
 
