@@ -48,7 +48,7 @@ module _ (kits : Kits) (ck : Keeps (kits .collector)) (es : List Event) (p : Pai
   abbrev rows : ℕ → Row
   rows = p .collector .row
 
-  abbrev Moves : World → Type 0
+  abbrev pub Moves : World → Type 0
   Moves W = Move c d (worldOf kits es p) W
 
   abbrev Steps : ℕ → Lane → Type 0
@@ -68,7 +68,7 @@ module _ (kits : Kits) (ck : Keeps (kits .collector)) (es : List Event) (p : Pai
   grew crow s = drop (length (rows s .pending)) (crow s .pending)
 
   -- nothing was written
-  quiet : (T : List Record) (M : ℕ → List Production) (link : List Message) → T ≡ [] → ((s : ℕ) → M s ≡ []) → Left link → Moves (world rows T M link)
+  pub quiet : (T : List Record) (M : ℕ → List Production) (link : List Message) → T ≡ [] → ((s : ℕ) → M s ≡ []) → Left link → Moves (world rows T M link)
   quiet T M link t m left =
       still (same-grown kits es p rows (p .spotter .row) T M (λ s. []) (p .collector .w) (p .spotter .w) link (λ s. refl) (λ s. refl) t m (λ s. refl)) refl refl (λ x k. inl (left x k))
 

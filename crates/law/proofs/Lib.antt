@@ -9,3 +9,4 @@ mod Judged
 mod Next
 mod Best
 mod Collector
+mod Spotter
