@@ -10,3 +10,4 @@ mod Next
 mod Best
 mod Collector
 mod Spotter
+mod Calls
