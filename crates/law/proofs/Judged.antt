@@ -135,6 +135,9 @@ module _ (c : Computation (List ℕ)) (on : Bool) (w : ℕ) (r : Record) (row : 
       let rest = leb (r .name .time) lastTime && (ltb 0 (r .amount) && leb (r .amount) mostAmount) in
       ltb-true (r .stop) stops (and-parts (ltb (r .stop) stops) rest (considered-done e .in-range) .0)
 
+  pub considered-on : isDone (considered c on w r row) ≡ true → on ≡ true
+  considered-on e = considered-done e .is-on
+
   pub considered-lets : isDone (considered c on w r row) ≡ true → Lets c w r row
   unfolding late says
   considered-lets e =

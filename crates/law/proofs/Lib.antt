@@ -11,3 +11,6 @@ mod Best
 mod Collector
 mod Spotter
 mod Calls
+mod Queues
+mod QueueCalls
+mod Runs
