@@ -14,3 +14,5 @@ mod Calls
 mod Queues
 mod QueueCalls
 mod Runs
+mod Sums
+mod Counts

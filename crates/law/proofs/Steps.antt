@@ -38,7 +38,7 @@ module _ (c d : Computation (List ℕ)) (cl : Lawful c StateBytes) (dl : Lawful 
   pub fires-at : (t : ℕ) → c .due (L .crow .state) ≡ Some t → t ≤ cw → Fires c StateBytes (L .crow .state) cw t
   fires-at t due reached = record { sound = g .cbytes; watermark = last; due = due; reached = reached }
 
-  spot-fires-at : (t : ℕ) → d .due (L .srow .state) ≡ Some t → t ≤ sw → Fires d StateBytes (L .srow .state) sw t
+  pub spot-fires-at : (t : ℕ) → d .due (L .srow .state) ≡ Some t → t ≤ sw → Fires d StateBytes (L .srow .state) sw t
   spot-fires-at t due reached = record { sound = g .sbytes; watermark = omega arith; due = due; reached = reached }
 
   pub take-adds : (r : Record) (tk : Takes c StateBytes (L .crow .state) cw (r .name .time) (r .amount)) → Adds (L .crow .next) (r .name .time) (c .mark (takeOf c cw r (L .crow) .0)) (produced (takeOf c cw r (L .crow) .1) (L .crow .next)) (nextAfter (takeOf c cw r (L .crow) .1) (L .crow .next))
