@@ -7,10 +7,10 @@ use lib.ListN.{length, drop}
 use Rattle.std.specs.shelf.Lists.{kept-by}
 use Rattle.std.specs.declared.option.Option.{Option}
 use Rattle.std.specs.declared.option.Option.the-variants.{Some, None}
-use Rattle.model.specs.Admission.{admission}
+use Rattle.model.specs.Admission.{judged}
 use Rattle.model.specs.Answers.{answerNumber}
 use Rattle.model.specs.Computation.{Computation}
-use Rattle.model.specs.Limits.{lastSerial, mostPending, mostNames, inRange}
+use Rattle.model.specs.Limits.{lastSerial, mostPending, mostNames}
 use Rattle.model.specs.Row.{Row}
 use Rattle.model.specs.declared.answer.Answer.{Answer}
 use Rattle.model.specs.declared.answer.Answer.the-variants.{Done, Over, Full, NoRoom}
@@ -93,9 +93,7 @@ isOldest n (p ∷ ps) = eqb (p .serial) n
 
 -- is a record let in, at a watermark? `Done` means that it is
 abbrev pub admitted : Computation (List ℕ) → Bool → ℕ → Record → Row → Answer
-admitted c on w r row =
-    admission (inRange r) on (ltb (r .name .time) (floorOf c w (row .state))) (seen (r .name) (row .names))
-    (c .verdict (row .state) w (r .name .time) (r .amount))
+admitted c on w r row = judged c (row .state) on w (seen (r .name) (row .names)) r
 
 -- has the row room for the name, and for what the take emits? old names count that the take does not drop
 abbrev pub roomToTake : Computation (List ℕ) → ℕ → Record → Row → Answer
