@@ -13,6 +13,7 @@ use Rattle.model.specs.Computation.{Computation, Upto}
 use Rattle.model.specs.Limits.{stops}
 use Rattle.model.specs.Row.{Row}
 use Rattle.model.specs.declared.record.Production.{Production}
+use Rattle.law.specs.Bests.{FirstDue, Crowd, Lows, Bests}
 use Rattle.law.specs.Lists.{Mem}
 use Rattle.law.specs.Stops.{better, firstBest, earliest, greatest, oldest, leastTime, leastDue, lowBelow, lowest}
 use Rattle.law.proofs.Next.{none-some}
@@ -87,42 +88,42 @@ pub earliest-due : (c : Computation (List ℕ)) (rows : ℕ → Row) (x : ℕ ×
 earliest-due c rows x e = found (λ d e. ltb d e) (λ s. c .due (rows s .state)) stops x e
 
 -- a due that no other is before, and that no lower stop shares, is the earliest
-pub earliest-is : (c : Computation (List ℕ)) (rows : ℕ → Row) (s t : ℕ) → s < stops → c .due (rows s .state) ≡ Some t → ((q e : ℕ) → q < stops → c .due (rows q .state) ≡ Some e → (t < e) ⊎ ((t ≡ e) × (s ≤ q))) → earliest c rows ≡ Some (s, t)
-earliest-is c rows s t h is first =
-    best-found (λ d e. ltb d e) (λ q. c .due (rows q .state)) stops s t h
+pub earliest-is : (c : Computation (List ℕ)) (rows : ℕ → Row) (s t : ℕ) → FirstDue c rows s t → earliest c rows ≡ Some (s, t)
+earliest-is c rows s t f =
+    best-found (λ d e. ltb d e) (λ q. c .due (rows q .state)) stops s t (f .stop)
     (record {
-      stands = is;
-      before = λ q y l e. elim (first q y (omega arith) e) [ inl lt ↦ lt-ltb t y lt | inr same ↦ absurd (wrong q (same .1) l) ];
-      after = λ q y l k e. elim (first q y k e) [ inl lt ↦ le-ltb y t (omega arith) | inr same ↦ le-ltb y t (omega (arith, same .0)) ];
+      stands = f .due;
+      before = λ q y l e. elim (f .first q y (under q l (f .stop)) e) [ inl lt ↦ lt-ltb t y lt | inr same ↦ absurd (wrong q (same .1) l) ];
+      after = λ q y l k e. elim (f .first q y k e) [ inl lt ↦ le-ltb y t (omega arith) | inr same ↦ le-ltb y t (omega (arith, same .0)) ];
     })
   where
     wrong : (q : ℕ) → s ≤ q → q < s → ⊥
     wrong q a b = omega arith
+
+    under : (q : ℕ) → q < s → s < stops → q < stops
+    under q a b = omega arith
 
 pub none-due : (c : Computation (List ℕ)) (rows : ℕ → Row) → ((q : ℕ) → q < stops → c .due (rows q .state) ≡ None) → earliest c rows ≡ None
 none-due c rows f = none-found (λ d e. ltb d e) (λ q. c .due (rows q .state)) stops f
 
 -- a production whose amount no other exceeds, and that no lower stop shares, is the greatest
-pub greatest-is : (rows : ℕ → Row) (s : ℕ) (x : Production) → s < stops → oldest (rows s .pending) ≡ Some x → ((q : ℕ) (y : Production) → q < stops → oldest (rows q .pending) ≡ Some y → (y .amount < x .amount) ⊎ ((y .amount ≡ x .amount) × (s ≤ q))) → greatest rows ≡ Some (s, x)
-greatest-is rows s x h is first =
-    best-found (λ p q. ltb (q .amount) (p .amount)) (λ q. oldest (rows q .pending)) stops s x h
+pub greatest-is : (rows : ℕ → Row) (s : ℕ) (x : Production) → Crowd rows s x → greatest rows ≡ Some (s, x)
+greatest-is rows s x f =
+    best-found (λ p q. ltb (q .amount) (p .amount)) (λ q. oldest (rows q .pending)) stops s x (f .stop)
     (record {
-      stands = is;
-      before = λ q y l e. elim (first q y (omega arith) e) [ inl lt ↦ lt-ltb (y .amount) (x .amount) lt | inr same ↦ absurd (wrong q (same .1) l) ];
-      after = λ q y l k e. elim (first q y k e) [ inl lt ↦ le-ltb (x .amount) (y .amount) (omega arith) | inr same ↦ le-ltb (x .amount) (y .amount) (omega (arith, same .0)) ];
+      stands = f .oldest-is;
+      before = λ q y l e. elim (f .greatest-is q y (under q l (f .stop)) e) [ inl lt ↦ lt-ltb (y .amount) (x .amount) lt | inr same ↦ absurd (wrong q (same .1) l) ];
+      after = λ q y l k e. elim (f .greatest-is q y k e) [ inl lt ↦ le-ltb (x .amount) (y .amount) (omega arith) | inr same ↦ le-ltb (x .amount) (y .amount) (omega (arith, same .0)) ];
     })
   where
     wrong : (q : ℕ) → s ≤ q → q < s → ⊥
     wrong q a b = omega arith
 
+    under : (q : ℕ) → q < s → s < stops → q < stops
+    under q a b = omega arith
+
 pub none-pending : (rows : ℕ → Row) → ((q : ℕ) → q < stops → oldest (rows q .pending) ≡ None) → greatest rows ≡ None
 none-pending rows f = none-found (λ p q. ltb (q .amount) (p .amount)) (λ q. oldest (rows q .pending)) stops f
-
--- the low watermark is the greatest number that is at most the watermark, all pending times and all dues
-pub record Lows (c : Computation (List ℕ)) (rows : ℕ → Row) (w b n : ℕ) : Type 0 where
-  pub watermark : b ≤ w
-  pub pending : (s : ℕ) → s < n → (p : Production) → Mem p (rows s .pending) → b ≤ p .time
-  pub dues : (s : ℕ) → s < n → Upto b (c .due (rows s .state))
 
 times-low : (b w : ℕ) (ps : List Production) → b ≤ leastTime ps w → (b ≤ w) × ((p : Production) → Mem p ps → b ≤ p .time)
 times-low b w [] h = (h, λ p m. absurd m)
@@ -177,3 +178,12 @@ module _ (c : Computation (List ℕ)) (rows : ℕ → Row) (w b : ℕ) where
 
   pub low-from : Lows c rows w b stops → b ≤ lowest c rows w
   low-from l = below-lows stops l
+
+pub bests : Bests
+bests = (
+  earliest-is,
+  none-due,
+  greatest-is,
+  none-pending,
+  λ c rows w b. (low-tells c rows w b, low-from c rows w b),
+)

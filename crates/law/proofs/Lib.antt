@@ -1,18 +1,19 @@
-mod Lists
-mod World
-mod Moves
-mod Rows
-mod Lines
-mod Steps
-mod Moved
-mod Judged
-mod Next
-mod Best
-mod Collector
-mod Spotter
-mod Calls
-mod Queues
-mod QueueCalls
-mod Runs
-mod Sums
-mod Counts
+pub mod Lists
+pub mod World
+pub mod Moves
+pub mod Rows
+pub mod Lines
+pub mod Steps
+pub mod Moved
+pub mod Judged
+pub mod Next
+pub mod Best
+pub mod Collector
+pub mod Spotter
+pub mod Calls
+pub mod Queues
+pub mod QueueCalls
+pub mod Runs
+pub mod Sums
+pub mod Counts
+pub mod Telling

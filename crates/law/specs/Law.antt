@@ -5,13 +5,15 @@ use mathlib.Core.Bool.{Bool, true, false}
 use mathlib.Core.List.{List, [], _∷_, _++_, map}
 use Rattle.model.specs.Computation.{StateBytes, Conserves, Totals}
 use Rattle.model.specs.Limits.{stops}
+use Rattle.model.specs.declared.answer.Outcome.{Outcome}
+use Rattle.model.specs.declared.call.Call.{Call}
 use Rattle.model.specs.declared.record.Production.{Production}
 use Rattle.model.specs.declared.record.Record.{Record}
 use Rattle.law.specs.Lists.{Mem, Apart, total}
 use Rattle.law.specs.Node.{Node, Keeps}
 use Rattle.law.specs.Pair.{Kits, Pair, lowWatermark}
 use Rattle.law.specs.Rows.{floorOf}
-use Rattle.law.specs.Run.{Event, Run, moments, allTaken, taken, made, landed, waiting}
+use Rattle.law.specs.Run.{Event, Happened, Run, Goes, moments, allTaken, taken, made, landed, waiting}
 use Rattle.law.specs.Stops.{sumStops}
 
 -- the queue holds exactly the stops with something pending, each once
@@ -68,3 +70,16 @@ Every-count =
     (kits : Kits) → Keeps (kits .collector) → Keeps (kits .spotter) →
     (held landed : List ℕ → ℕ) → Conserves (kits .collector .computation) StateBytes held → Totals (kits .spotter .computation) StateBytes landed →
     (es : List Event) (p : Pair) → Run kits es p → Throughout (Counted kits held landed) es p
+
+-- a run from a new pair goes on by more calls, with the law at its every moment
+pub record Told (kits : Kits) (es : List Event) (calls : List Call) (outcomes : List Outcome) (fs : List Event) (q : Pair) : Type 0 where
+  pub goes : Goes kits es calls outcomes fs q
+  pub lawful : Throughout (Law kits) fs q
+
+-- a run is told up to where it is, and then on by one call more
+abbrev pub Every-telling : Type 0
+Every-telling =
+    (kits : Kits) → Keeps (kits .collector) → Keeps (kits .spotter) → (es : List Event) →
+    ((p : Pair) → Run kits es p → Told kits es [] [] es p) ×
+    ((calls : List Call) (outcomes : List Outcome) (fs : List Event) (q : Pair) → Told kits es calls outcomes fs q →
+      (e : Event) → Happened kits e → e .before ≡ q → Told kits es (calls ++ (e .call ∷ [])) (outcomes ++ (e .outcome ∷ [])) (e ∷ fs) (e .after))

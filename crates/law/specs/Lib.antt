@@ -5,3 +5,4 @@ pub mod Node
 pub mod Pair
 pub mod Run
 pub mod Law
+pub mod Bests

@@ -63,6 +63,13 @@ abbrev pub outcomesOf : List Event → List Outcome
 outcomesOf [] = []
 outcomesOf (e ∷ es) = outcomesOf es ++ (e .outcome ∷ [])
 
+-- a run goes on: these calls, in order, have these outcomes and lead to this pair
+pub record Goes (kits : Kits) (es : List Event) (calls : List Call) (outcomes : List Outcome) (fs : List Event) (q : Pair) : Type 0 where
+  pub run : Run kits fs q
+  pub since : (later : List Event) × (fs ≡ later ++ es)
+  pub calls-are : callsOf fs ≡ callsOf es ++ calls
+  pub outcomes-are : outcomesOf fs ≡ outcomesOf es ++ outcomes
+
 -- what a call does that counts: a record is handed in at the collector, a due fires there,
 -- a production of a stop is handed in at the spotter
 pub data Deed : Type 0 where
