@@ -30,8 +30,15 @@ pub record Event : Type 0 where
   pub before : Pair
   pub after : Pair
 
+-- what a call makes of a pair
+abbrev pub Rules : Type 0
+Rules = Free → Call → Pair → Outcome × Pair
+
+abbrev pub HappenedBy : Rules → Event → Type 0
+HappenedBy rules e = rules (e .free) (e .call) (e .before) ≡ (e .outcome, e .after)
+
 abbrev pub Happened : Kits → Event → Type 0
-Happened kits e = happens kits (e .free) (e .call) (e .before) ≡ (e .outcome, e .after)
+Happened kits e = HappenedBy (happens kits) e
 
 -- a node that nothing has happened to; what power left it with is as it may be
 pub record NewNode (n : Node) : Type 0 where
@@ -45,9 +52,12 @@ pub record New (p : Pair) : Type 0 where
   pub link : p .link ≡ []
 
 -- these events, the newest first, lead from a new pair to this one
+abbrev pub RunBy : Rules → List Event → Pair → Type 0
+RunBy rules [] p = New p
+RunBy rules (e ∷ es) p = RunBy rules es (e .before) × HappenedBy rules e × (e .after ≡ p)
+
 abbrev pub Run : Kits → List Event → Pair → Type 0
-Run kits [] p = New p
-Run kits (e ∷ es) p = Run kits es (e .before) × Happened kits e × (e .after ≡ p)
+Run kits es p = RunBy (happens kits) es p
 
 -- the pairs at the moments of a run, the newest first: its start, and the end of each call
 abbrev pub moments : List Event → Pair → List Pair

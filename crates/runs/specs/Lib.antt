@@ -1,0 +1,4 @@
+pub mod Counting
+pub mod Play
+pub mod Worked
+pub mod Wrong
