@@ -169,8 +169,8 @@ module _ (c : Computation (List ℕ)) (rows : ℕ → Row) (w b : ℕ) where
   below-lows (suc n) l =
       low-due b (leastTime (rows n .pending) (lowBelow c rows w n)) (c .due (rows n .state))
       (low-times b (lowBelow c rows w n) (rows n .pending)
-        (below-lows n (record { watermark = l .watermark; pending = λ s k p m. l .pending s (omega arith) p m; dues = λ s k. l .dues s (omega arith) }))
-        (λ p m. l .pending n (omega arith) p m))
+      (below-lows n (record { watermark = l .watermark; pending = λ s k p m. l .pending s (omega arith) p m; dues = λ s k. l .dues s (omega arith) }))
+      (λ p m. l .pending n (omega arith) p m))
       (l .dues n (omega arith))
 
   pub low-tells : b ≤ lowest c rows w → Lows c rows w b stops

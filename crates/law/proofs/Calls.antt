@@ -126,13 +126,13 @@ module _ (kits : Kits) (ck : Keeps (kits .collector)) (sk : Keeps (kits .spotter
   restart-moves free left tear junk r (inl e) =
       subst (After other) (sym e)
       (cond-both (leb tear 2 && eqb (length junk) pageBytes)
-        (restartAnswer left (free .point) (p .collector .power), record { row = p .collector .row; w = p .collector .w; power = restarted left tear (free .owed) (p .collector .power); queue = pendingStops (p .collector .row) })
-        (OutOfRange, p .collector) (λ y. After other (atCollector y p)) (λ _. none) (λ _. none))
+      (restartAnswer left (free .point) (p .collector .power), record { row = p .collector .row; w = p .collector .w; power = restarted left tear (free .owed) (p .collector .power); queue = pendingStops (p .collector .row) })
+      (OutOfRange, p .collector) (λ y. After other (atCollector y p)) (λ _. none) (λ _. none))
   restart-moves free left tear junk r (inr e) =
       subst (After other) (sym e)
       (cond-both (leb tear 2 && eqb (length junk) pageBytes)
-        (restartAnswer left (free .point) (p .spotter .power), record { row = p .spotter .row; w = p .spotter .w; power = restarted left tear (free .owed) (p .spotter .power); queue = pendingStops (p .spotter .row) })
-        (OutOfRange, p .spotter) (λ y. After other (atSpotter y p)) (λ _. none) (λ _. none))
+      (restartAnswer left (free .point) (p .spotter .power), record { row = p .spotter .row; w = p .spotter .w; power = restarted left tear (free .owed) (p .spotter .power); queue = pendingStops (p .spotter .row) })
+      (OutOfRange, p .spotter) (λ y. After other (atSpotter y p)) (λ _. none) (λ _. none))
 
   node-moves : (node : ℕ) (first second : Outcome × Pair) (deed : Bool → Deed) → After (deed true) first → After (deed false) second → After (deed true) (Plain OutOfRange, p) → After (deed false) (Plain OutOfRange, p) → After (deed (eqb node 0)) (atNode node first second p)
   node-moves node first second deed a b x y = at (eqb node 0)

@@ -83,8 +83,8 @@ module _ (kits : Kits) (ck : Keeps (kits .collector)) (es : List Event) (p : Pai
       stop s h
       (subst (λ L. Steps s L) (sym (lane-path to (row-at s new rows) refl here (ap (λ xs. made kits s es ++ xs) add) (append-nil (landed kits s es)))) step)
       (λ q ne. lane-path (laneOf kits es p q) (row-off s q new rows ne) refl (there q ne)
-        (none-added kits es p (made kits q es) (grew (withRow s new rows) q) (ap (λ (r : Row). drop (length (rows q .pending)) (r .pending)) (row-off s q new rows ne) ∙ drop-all (rows q .pending)))
-        (append-nil (landed kits q es)))
+      (none-added kits es p (made kits q es) (grew (withRow s new rows) q) (ap (λ (r : Row). drop (length (rows q .pending)) (r .pending)) (row-off s q new rows ne) ∙ drop-all (rows q .pending)))
+      (append-nil (landed kits q es)))
       refl refl (λ m k. inl k)
 
   -- the same by a commit, whose row is new or not
@@ -105,12 +105,12 @@ module _ (kits : Kits) (ck : Keeps (kits .collector)) (es : List Event) (p : Pai
       let a = considered c (n .power .on) (n .w) r row in
       cond-both (isDone a) (commitRow (kits .collector) free (r .stop) (takenRow c (n .w) r row) n) (a, n) (λ x. Moves (nextWorld kits es p (hands r) (atCollector x p)))
       (λ e. commit-grows free (r .stop) (takenRow c (n .w) r row) (λ b. cond b (r ∷ []) []) (produced (takeOf c (n .w) r row .1) (row .next)) (taken kits (r .stop) es ++ (r ∷ []))
-        refl (considered-stop c (n .power .on) (n .w) r row e) refl
-        (Step.takes r (considered-lets c (n .power .on) (n .w) r row e))
-        (took-at kits es p r) (λ q ne. took-off kits es p q r ne))
+      refl (considered-stop c (n .power .on) (n .w) r row e) refl
+      (Step.takes r (considered-lets c (n .power .on) (n .w) r row e))
+      (took-at kits es p r) (λ q ne. took-off kits es p q r ne))
       (λ e. let f = considered-plain c (n .power .on) (n .w) r row in
-        quiet (cond (wrote (kits .collector) (n .power) a) (r ∷ []) []) (λ s. cond (wrote (kits .collector) (n .power) a) (grew rows s) []) (p .link)
-        (ap (λ b. cond b (r ∷ []) []) (refused-wrote (kits .collector) (n .power) a e f)) (refused a e f (grew rows)) (λ m k. k))
+      quiet (cond (wrote (kits .collector) (n .power) a) (r ∷ []) []) (λ s. cond (wrote (kits .collector) (n .power) a) (grew rows s) []) (p .link)
+      (ap (λ b. cond b (r ∷ []) []) (refused-wrote (kits .collector) (n .power) a e f)) (refused a e f (grew rows)) (λ m k. k))
 
   -- at a stop where something is due
   fire-at : (free : Free) (s t : ℕ) → s < stops → c .due (rows s .state) ≡ Some t → t ≤ p .collector .w → Moves (nextWorld kits es p fires (atCollector (fireAs (kits .collector) free s (roomForOne (rows s)) (p .collector)) p))
@@ -118,7 +118,7 @@ module _ (kits : Kits) (ck : Keeps (kits .collector)) (es : List Event) (p : Pai
       let n = p .collector in
       cond-both (isDone (roomForOne (rows s))) (commitRow (kits .collector) free s (firedRow c (n .w) (rows s)) n) (roomForOne (rows s), n) (λ x. Moves (nextWorld kits es p fires (atCollector x p)))
       (λ e. commit-grows free s (firedRow c (n .w) (rows s)) (λ b. []) (produced (c .fire (rows s .state) .1) (rows s .next)) (taken kits s es)
-        refl h refl (Step.fires t due reached) (took-none kits es p s [] refl) (λ q ne. took-none kits es p q [] refl))
+      refl h refl (Step.fires t due reached) (took-none kits es p s [] refl) (λ q ne. took-none kits es p q [] refl))
       (λ e. quiet [] (λ q. cond (wrote (kits .collector) (n .power) (roomForOne (rows s))) (grew rows q) []) (p .link) refl (refused (roomForOne (rows s)) e (fire-room-plain (rows s)) (grew rows)) (λ m k. k))
 
   fire-due-moves : (free : Free) (o : Option (ℕ × ℕ)) → earliest c rows ≡ o → Moves (nextWorld kits es p fires (atCollector (fireDue (kits .collector) free o (p .collector)) p))
@@ -149,10 +149,10 @@ module _ (kits : Kits) (ck : Keeps (kits .collector)) (es : List Event) (p : Pai
       let none = quiet [] (λ s. []) (p .link) refl (λ s. refl) (λ m k. k) in
       cond-both (leb t lastTime) (cond (n .power .on) (raise (kits .collector) free t n) (Off, n)) (OutOfRange, n) (λ y. Moves (nextWorld kits es p other (atCollector y p)))
       (λ last. cond-both (n .power .on) (raise (kits .collector) free t n) (Off, n) (λ y. Moves (nextWorld kits es p other (atCollector y p)))
-        (λ _. cond-both (leb t (n .w)) (Nothing, n) (commitWatermark (kits .collector) free t n) (λ y. Moves (nextWorld kits es p other (atCollector y p)))
-          (λ _. none)
-          (λ above. raised (renewed (kits .collector .turn) (n .power)) t (leb-false t (n .w) above) (leb-true t lastTime last)))
-        (λ _. none))
+      (λ _. cond-both (leb t (n .w)) (Nothing, n) (commitWatermark (kits .collector) free t n) (λ y. Moves (nextWorld kits es p other (atCollector y p)))
+      (λ _. none)
+      (λ above. raised (renewed (kits .collector .turn) (n .power)) t (leb-false t (n .w) above) (leb-true t lastTime last)))
+      (λ _. none))
       (λ _. none)
 
   -- an acknowledged production was cleared, or not
@@ -171,9 +171,9 @@ module _ (kits : Kits) (ck : Keeps (kits .collector)) (es : List Event) (p : Pai
       let none = quiet [] (λ q. []) link refl (λ q. refl) left in
       cond-both (ltb s stops) (cond (n .power .on) (clearOldest (kits .collector) free s serial n) (Off, n)) (OutOfRange, n) (λ y. Moves (nextWorld kits es p other (atCollector y (withLink link p))))
       (λ h. cond-both (n .power .on) (clearOldest (kits .collector) free s serial n) (Off, n) (λ y. Moves (nextWorld kits es p other (atCollector y (withLink link p))))
-        (λ _. cond-both (isOldest serial (rows s .pending)) (commitRow (kits .collector) free s (clearedRow (rows s)) n) (NotOldest, n) (λ y. Moves (nextWorld kits es p other (atCollector y (withLink link p))))
-          (λ e. let o = oldest-is serial (rows s .pending) e in
-            cleared (renewed (kits .collector .turn) (n .power)) s (o .0) (o .1) link (ltb-true s stops h) (o .2) (subst (λ k. Mem (Acknowledged s k) (p .link)) (sym (o .3)) m) left)
-          (λ _. none))
-        (λ _. none))
+      (λ _. cond-both (isOldest serial (rows s .pending)) (commitRow (kits .collector) free s (clearedRow (rows s)) n) (NotOldest, n) (λ y. Moves (nextWorld kits es p other (atCollector y (withLink link p))))
+      (λ e. let o = oldest-is serial (rows s .pending) e in
+      cleared (renewed (kits .collector .turn) (n .power)) s (o .0) (o .1) link (ltb-true s stops h) (o .2) (subst (λ k. Mem (Acknowledged s k) (p .link)) (sym (o .3)) m) left)
+      (λ _. none))
+      (λ _. none))
       (λ _. none)

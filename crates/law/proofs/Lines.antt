@@ -13,9 +13,10 @@ use Rattle.law.proofs.World.{Line, Front, Rising, Times, serialOf}
 
 pub rising-join : (xs ys : List Production) → Rising xs → Rising ys → ((x y : Production) → Mem x xs → Mem y ys → x .time ≤ y .time) → Rising (xs ++ ys)
 rising-join [] ys a b f = b
-rising-join (x ∷ xs) ys a b f =
-    (λ q m. elim (mem-split q xs ys m) [ inl k ↦ a .0 q k | inr k ↦ f x q (inl refl) k ],
-     rising-join xs ys (a .1) b (λ p q m n. f p q (inr m) n))
+rising-join (x ∷ xs) ys a b f = (
+  λ q m. elim (mem-split q xs ys m) [ inl k ↦ a .0 q k | inr k ↦ f x q (inl refl) k ],
+  rising-join xs ys (a .1) b (λ p q m n. f p q (inr m) n),
+)
 
 module _ (made landed waits pending new : List Production) (next then start after : ℕ) (a : Adds next start after new then) where
   front-grows : Front pending waits landed → Front (pending ++ new) (waits ++ new) landed

@@ -43,9 +43,10 @@ module _ {X : Type 0} where
 
   pub apart-join : (xs ys : List X) → Apart xs → Apart ys → ((x : X) → Mem x xs → Mem x ys → ⊥) → Apart (xs ++ ys)
   apart-join [] ys a b f = b
-  apart-join (x ∷ xs) ys a b f =
-      (λ m. elim (mem-split x xs ys m) [ inl k ↦ a .0 k | inr k ↦ f x (inl refl) k ],
-       apart-join xs ys (a .1) b (λ z m n. f z (inr m) n))
+  apart-join (x ∷ xs) ys a b f = (
+    λ m. elim (mem-split x xs ys m) [ inl k ↦ a .0 k | inr k ↦ f x (inl refl) k ],
+    apart-join xs ys (a .1) b (λ z m n. f z (inr m) n),
+  )
 
   pub apart-snoc : (x : X) (xs : List X) → Apart xs → (Mem x xs → ⊥) → Apart (xs ++ (x ∷ []))
   apart-snoc x xs a f =

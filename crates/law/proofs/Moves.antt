@@ -45,53 +45,53 @@ module _ (c d : Computation (List ℕ)) where
   -- what can happen at a stop
   pub data Step (s cw sw : ℕ) (link : List Message) (L : Lane) : Lane → Type 0 where
     takes : (r : Record) → Lets c cw r (L .crow) →
-      Step s cw sw link L (record {
-        crow = takenRow c cw r (L .crow);
-        srow = L .srow;
-        took = L .took ++ (r ∷ []);
-        made = L .made ++ produced (takeOf c cw r (L .crow) .1) (L .crow .next);
-        landed = L .landed;
-      })
+        Step s cw sw link L (record {
+          crow = takenRow c cw r (L .crow);
+          srow = L .srow;
+          took = L .took ++ (r ∷ []);
+          made = L .made ++ produced (takeOf c cw r (L .crow) .1) (L .crow .next);
+          landed = L .landed;
+        })
     fires : (t : ℕ) → c .due (L .crow .state) ≡ Some t → t ≤ cw →
-      Step s cw sw link L (record {
-        crow = firedRow c cw (L .crow);
-        srow = L .srow;
-        took = L .took;
-        made = L .made ++ produced (c .fire (L .crow .state) .1) (L .crow .next);
-        landed = L .landed;
-      })
+        Step s cw sw link L (record {
+          crow = firedRow c cw (L .crow);
+          srow = L .srow;
+          took = L .took;
+          made = L .made ++ produced (c .fire (L .crow .state) .1) (L .crow .next);
+          landed = L .landed;
+        })
     lands : (p : Production) → Mem (Produced s p) link → Lets d sw (asRecord s p) (L .srow) →
-      Step s cw sw link L (record {
-        crow = L .crow;
-        srow = takenRow d sw (asRecord s p) (L .srow);
-        took = L .took;
-        made = L .made;
-        landed = L .landed ++ (p ∷ []);
-      })
+        Step s cw sw link L (record {
+          crow = L .crow;
+          srow = takenRow d sw (asRecord s p) (L .srow);
+          took = L .took;
+          made = L .made;
+          landed = L .landed ++ (p ∷ []);
+        })
     clears : (p : Production) (rest : List Production) → L .crow .pending ≡ p ∷ rest → Mem (Acknowledged s (p .serial)) link →
-      Step s cw sw link L (record {
-        crow = clearedRow (L .crow);
-        srow = L .srow;
-        took = L .took;
-        made = L .made;
-        landed = L .landed;
-      })
+        Step s cw sw link L (record {
+          crow = clearedRow (L .crow);
+          srow = L .srow;
+          took = L .took;
+          made = L .made;
+          landed = L .landed;
+        })
     spotFires : (t : ℕ) → d .due (L .srow .state) ≡ Some t → t ≤ sw →
-      Step s cw sw link L (record {
-        crow = L .crow;
-        srow = firedRow d sw (L .srow);
-        took = L .took;
-        made = L .made;
-        landed = L .landed;
-      })
+        Step s cw sw link L (record {
+          crow = L .crow;
+          srow = firedRow d sw (L .srow);
+          took = L .took;
+          made = L .made;
+          landed = L .landed;
+        })
     spotClears :
-      Step s cw sw link L (record {
-        crow = L .crow;
-        srow = clearedRow (L .srow);
-        took = L .took;
-        made = L .made;
-        landed = L .landed;
-      })
+        Step s cw sw link L (record {
+          crow = L .crow;
+          srow = clearedRow (L .srow);
+          took = L .took;
+          made = L .made;
+          landed = L .landed;
+        })
 
   -- a number is at most the collector's watermark, all its pending times and all its dues
   pub record Below (b : ℕ) (W : World) : Type 0 where
@@ -102,6 +102,6 @@ module _ (c d : Computation (List ℕ)) where
   pub data Move (W W′ : World) : Type 0 where
     still : Same W W′ → W′ .cw ≡ W .cw → W′ .sw ≡ W .sw → Linked W W′ → Move W W′
     stop : (s : ℕ) → s < stops → Step s (W .cw) (W .sw) (W .link) (W .lane s) (W′ .lane s) →
-      ((q : ℕ) → (q ≡ s → ⊥) → W′ .lane q ≡ W .lane q) → W′ .cw ≡ W .cw → W′ .sw ≡ W .sw → Linked W W′ → Move W W′
+        ((q : ℕ) → (q ≡ s → ⊥) → W′ .lane q ≡ W .lane q) → W′ .cw ≡ W .cw → W′ .sw ≡ W .sw → Linked W W′ → Move W W′
     advances : Same W W′ → W .cw ≤ W′ .cw → W′ .cw ≤ lastTime → W′ .sw ≡ W .sw → Linked W W′ → Move W W′
     passes : Same W W′ → W′ .cw ≡ W .cw → W .sw ≤ W′ .sw → Below (W′ .sw) W → Linked W W′ → Move W W′

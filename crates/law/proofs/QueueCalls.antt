@@ -75,8 +75,8 @@ module _ (kits : Kits) (ck : Keeps (kits .collector)) (sk : Keeps (kits .spotter
       let raised = atSpotter (raise (kits .spotter) free (lowWatermark kits p) (p .spotter)) p in
       cond-both (p .collector .power .on) (cond (p .spotter .power .on) raised (Plain Off, p)) (Plain Off, p) After
       (λ _. cond-both (p .spotter .power .on) raised (Plain Off, p) After
-        (λ on. record { collector = h .collector; spotter = raise-held (kits .spotter) sk free (p .spotter) (h .spotter) (lowWatermark kits p) on })
-        (λ _. h))
+      (λ on. record { collector = h .collector; spotter = raise-held (kits .spotter) sk free (p .spotter) (h .spotter) (lowWatermark kits p) on })
+      (λ _. h))
       (λ _. h)
 
   node-holds : (node : ℕ) (first second : Outcome × Pair) → After first → After second → After (atNode node first second p)

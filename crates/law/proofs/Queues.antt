@@ -181,7 +181,7 @@ module _ (kit : Kit) (keeps : Keeps kit) (free : Free) (n : Node) (held : Held n
       let wrote : renewed (kit .turn) (n .power) ≡ true = or-left (leb (kit .turn) (n .power .left)) (eqb (n .power .left + 1) (kit .turn) && eqb (n .power .tear) 1) (le-leb (kit .turn) (n .power .left) (omega (arith, leb-true (kit .cost) (n .power .left) done, keeps .turn-ends))) in
       right-queued (commitRow kit free s new n .1)
       (subst (λ b. Right (cond b (withRow s new (n .row)) (n .row)) (requeued s (new .pending) (n .queue))) (sym wrote)
-        (requeued-right s h new (n .row) (n .queue) (queued-right n (held on)) (new .pending) refl))
+      (requeued-right s h new (n .row) (n .queue) (queued-right n (held on)) (new .pending) refl))
 
   pub hand-in-held : (r : Record) → Held (handIn kit free r n .1)
   hand-in-held r =
@@ -209,8 +209,8 @@ module _ (kit : Kit) (keeps : Keeps kit) (free : Free) (n : Node) (held : Held n
       let new = firedRow (kit .computation) (n .w) (n .row (x .0)) in
       cond-both (leb (x .1) (n .w)) (fireAs kit free (x .0) room n) (Nothing, n) (λ y. Held (y .1))
       (λ _. cond-both (isDone room) (commitRow kit free (x .0) new n) (room, n) (λ y. Held (y .1))
-        (λ _. commit-held (x .0) new (earliest-due (kit .computation) (n .row) x e .0) on)
-        (λ _. held))
+      (λ _. commit-held (x .0) new (earliest-due (kit .computation) (n .row) x e .0) on)
+      (λ _. held))
       (λ _. held)
 
   pub fire-held : Held (fire kit free n .1)
@@ -223,10 +223,10 @@ module _ (kit : Kit) (keeps : Keeps kit) (free : Free) (n : Node) (held : Held n
   clear-held s serial =
       cond-both (ltb s stops) (cond (n .power .on) (clearOldest kit free s serial n) (Off, n)) (OutOfRange, n) (λ y. Held (y .1))
       (λ h. cond-both (n .power .on) (clearOldest kit free s serial n) (Off, n) (λ y. Held (y .1))
-        (λ on. cond-both (isOldest serial (n .row s .pending)) (commitRow kit free s (clearedRow (n .row s)) n) (NotOldest, n) (λ y. Held (y .1))
-          (λ _. commit-held s (clearedRow (n .row s)) (ltb-true s stops h) on)
-          (λ _. held))
-        (λ _. held))
+      (λ on. cond-both (isOldest serial (n .row s .pending)) (commitRow kit free s (clearedRow (n .row s)) n) (NotOldest, n) (λ y. Held (y .1))
+      (λ _. commit-held s (clearedRow (n .row s)) (ltb-true s stops h) on)
+      (λ _. held))
+      (λ _. held))
       (λ _. held)
 
   pub restart-held : (left tear : ℕ) (junk : List ℕ) → Held (restart free left tear junk n .1)

@@ -92,7 +92,7 @@ module _ (kits : Kits) (sk : Keeps (kits .spotter)) (es : List Event) (p : Pair)
       let new = takenRow d (n .w) r (rows s) in
       cond-both (isDone a) (commitRow (kits .spotter) free s new n) (a, n) (λ y. Moves (nextWorld kits es p (lands s x) (arrives s (x .serial) rest y p)))
       (λ e. taking (considered-stop d (n .power .on) (n .w) r (rows s) e)
-        (Step.lands x m (considered-lets d (n .power .on) (n .w) r (rows s) e)))
+      (Step.lands x m (considered-lets d (n .power .on) (n .w) r (rows s) e)))
       (λ e. refusing e)
     where
       a′ : Answer
@@ -150,8 +150,8 @@ module _ (kits : Kits) (sk : Keeps (kits .spotter)) (es : List Event) (p : Pair)
       let n = p .spotter in
       cond-both (leb (x .1) (n .w)) (fireAs (kits .spotter) free (x .0) (roomForOne (rows (x .0))) n) (Nothing, n) (λ y. Moves (nextWorld kits es p other (atSpotter y p)))
       (λ le. cond-both (isDone (roomForOne (rows (x .0)))) (commitRow (kits .spotter) free (x .0) (firedRow d (n .w) (rows (x .0))) n) (roomForOne (rows (x .0)), n) (λ y. Moves (nextWorld kits es p other (atSpotter y p)))
-        (λ _. written (renewed (kits .spotter .turn) (n .power)) (x .0) (firedRow d (n .w) (rows (x .0))) (found .0) (Step.spotFires (x .1) (found .1) (leb-true (x .1) (n .w) le)))
-        (λ _. none))
+      (λ _. written (renewed (kits .spotter .turn) (n .power)) (x .0) (firedRow d (n .w) (rows (x .0))) (found .0) (Step.spotFires (x .1) (found .1) (leb-true (x .1) (n .w) le)))
+      (λ _. none))
       (λ _. none)
 
   pub spot-fire-moves : (free : Free) → Moves (nextWorld kits es p other (atSpotter (fire (kits .spotter) free (p .spotter)) p))
@@ -165,10 +165,10 @@ module _ (kits : Kits) (sk : Keeps (kits .spotter)) (es : List Event) (p : Pair)
       let n = p .spotter in
       cond-both (ltb s stops) (cond (n .power .on) (clearOldest (kits .spotter) free s serial n) (Off, n)) (OutOfRange, n) (λ y. Moves (nextWorld kits es p other (atSpotter y p)))
       (λ h. cond-both (n .power .on) (clearOldest (kits .spotter) free s serial n) (Off, n) (λ y. Moves (nextWorld kits es p other (atSpotter y p)))
-        (λ _. cond-both (isOldest serial (rows s .pending)) (commitRow (kits .spotter) free s (clearedRow (rows s)) n) (NotOldest, n) (λ y. Moves (nextWorld kits es p other (atSpotter y p)))
-          (λ _. written (renewed (kits .spotter .turn) (n .power)) s (clearedRow (rows s)) (ltb-true s stops h) Step.spotClears)
-          (λ _. none))
-        (λ _. none))
+      (λ _. cond-both (isOldest serial (rows s .pending)) (commitRow (kits .spotter) free s (clearedRow (rows s)) n) (NotOldest, n) (λ y. Moves (nextWorld kits es p other (atSpotter y p)))
+      (λ _. written (renewed (kits .spotter .turn) (n .power)) s (clearedRow (rows s)) (ltb-true s stops h) Step.spotClears)
+      (λ _. none))
+      (λ _. none))
       (λ _. none)
 
   -- the spotter's watermark was written, or not

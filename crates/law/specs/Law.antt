@@ -82,4 +82,4 @@ Every-telling =
     (kits : Kits) → Keeps (kits .collector) → Keeps (kits .spotter) → (es : List Event) →
     ((p : Pair) → Run kits es p → Told kits es [] [] es p) ×
     ((calls : List Call) (outcomes : List Outcome) (fs : List Event) (q : Pair) → Told kits es calls outcomes fs q →
-      (e : Event) → Happened kits e → e .before ≡ q → Told kits es (calls ++ (e .call ∷ [])) (outcomes ++ (e .outcome ∷ [])) (e ∷ fs) (e .after))
+    (e : Event) → Happened kits e → e .before ≡ q → Told kits es (calls ++ (e .call ∷ [])) (outcomes ++ (e .outcome ∷ [])) (e ∷ fs) (e .after))

@@ -55,21 +55,27 @@ withRow s new rows q = cond (eqb q s) new (rows q)
 
 -- the commit of a stop's row: the row is new by the store's rule
 abbrev pub commitRow : Kit → Free → ℕ → Row → Node → Answer × Node
-commitRow kit free s new n = (commitAnswer (kit .cost) (free .point) (n .power), record {
-  row = cond (renewed (kit .turn) (n .power)) (withRow s new (n .row)) (n .row);
-  w = n .w;
-  power = spent (kit .cost) (free .owed) (n .power);
-  queue = requeued s (new .pending) (n .queue);
-})
+commitRow kit free s new n = (
+  commitAnswer (kit .cost) (free .point) (n .power),
+  record {
+    row = cond (renewed (kit .turn) (n .power)) (withRow s new (n .row)) (n .row);
+    w = n .w;
+    power = spent (kit .cost) (free .owed) (n .power);
+    queue = requeued s (new .pending) (n .queue);
+  },
+)
 
 -- the commit of the watermark
 abbrev pub commitWatermark : Kit → Free → ℕ → Node → Answer × Node
-commitWatermark kit free t n = (commitAnswer (kit .cost) (free .point) (n .power), record {
-  row = n .row;
-  w = cond (renewed (kit .turn) (n .power)) t (n .w);
-  power = spent (kit .cost) (free .owed) (n .power);
-  queue = n .queue;
-})
+commitWatermark kit free t n = (
+  commitAnswer (kit .cost) (free .point) (n .power),
+  record {
+    row = n .row;
+    w = cond (renewed (kit .turn) (n .power)) t (n .w);
+    power = spent (kit .cost) (free .owed) (n .power);
+    queue = n .queue;
+  },
+)
 
 -- a record is handed in
 abbrev pub handInAs : Kit → Free → Record → Answer → Node → Answer × Node
@@ -115,13 +121,15 @@ clear kit free s serial n =
 -- power returns: the rows stay, and the queue is made again from them, stops rising
 abbrev pub restart : Free → ℕ → ℕ → List ℕ → Node → Answer × Node
 restart free left tear junk n =
-    cond (leb tear 2 && eqb (length junk) pageBytes)
-    (restartAnswer left (free .point) (n .power), record {
-      row = n .row;
-      w = n .w;
-      power = restarted left tear (free .owed) (n .power);
-      queue = pendingStops (n .row);
-    })
+    cond (leb tear 2 && eqb (length junk) pageBytes) (
+      restartAnswer left (free .point) (n .power),
+      record {
+        row = n .row;
+        w = n .w;
+        power = restarted left tear (free .owed) (n .power);
+        queue = pendingStops (n .row);
+      },
+    )
     (OutOfRange, n)
 
 -- a call of this answer wrote its row or watermark: it was done, or was cut and yet the row is new by the store's rule

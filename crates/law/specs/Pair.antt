@@ -59,12 +59,14 @@ turnedNode n = record { row = n .row; w = n .w; power = n .power; queue = turned
 
 abbrev pub sendFrom : ℕ → Option Production → Pair → Outcome × Pair
 sendFrom s None p = (Plain Nothing, p)
-sendFrom s (Some production) p =
-    (Plain Done, record {
-      collector = turnedNode (p .collector);
-      spotter = p .spotter;
-      link = p .link ++ (Produced s production ∷ []);
-    })
+sendFrom s (Some production) p = (
+  Plain Done,
+  record {
+    collector = turnedNode (p .collector);
+    spotter = p .spotter;
+    link = p .link ++ (Produced s production ∷ []);
+  },
+)
 
 abbrev pub sendHead : List ℕ → Pair → Outcome × Pair
 sendHead [] p = (Plain Nothing, p)

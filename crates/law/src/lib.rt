@@ -12,23 +12,19 @@ ghost use Rattle.law.specs.Law.{Every-run, Every-count, Every-telling};
 // and no waiting production is late; and the collector, while on, has exactly the stops with something pending in its queue.
 pub fn every_run_keeps_the_law()
     ensures { λ _. ⌜ Every-run ⌝ }
-{
-}
+{}
 
 // And what the collector has taken is what its states hold open, what is waiting, and what is in the spotter's totals.
 pub fn every_run_counts_once()
     ensures { λ _. ⌜ Every-count ⌝ }
-{
-}
+{}
 
 // A run is told on, call by call, with the law at its every moment.
 pub fn every_run_goes_on()
     ensures { λ _. ⌜ Every-telling ⌝ }
-{
-}
+{}
 
 // The earliest due, the greatest production and the low watermark are what their names say.
 pub fn bests_are_the_best()
     ensures { λ _. ⌜ Bests ⌝ }
-{
-}
+{}

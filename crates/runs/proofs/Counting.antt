@@ -25,8 +25,9 @@ pub counter-law : Counter-law
 counter-law cost turn cost′ turn′ a b a′ b′ es p r =
     let kits : Kits = record { collector = counterKit cost turn; spotter = detectorKit cost′ turn′ } in
     let ck = counter-keeps cost turn a b in
-    let sk = detector-keeps cost′ turn′ a′ b′ in
-    (every-run kits ck sk es p r,
-     every-count kits ck sk openIn landedIn
-     (conserves-on-bytes counter CounterSound counter-lawful held counter-conserves)
-     (totals-on-bytes detector DetectorSound detector-lawful (λ s. s .total) detector-totals) es p r)
+    let sk = detector-keeps cost′ turn′ a′ b′ in (
+      every-run kits ck sk es p r,
+      every-count kits ck sk openIn landedIn
+          (conserves-on-bytes counter CounterSound counter-lawful held counter-conserves)
+          (totals-on-bytes detector DetectorSound detector-lawful (λ s. s .total) detector-totals) es p r,
+    )

@@ -9,8 +9,7 @@ ghost use Rattle.runs.specs.Wrong.{Breaks, hasty, forgetful, dueless};
 // The whole law holds of the counter and the detector, over any two stores, with nothing left to assume.
 pub fn counter_and_detector_keep_the_law()
     ensures { λ _. ⌜ Counter-law ⌝ }
-{
-}
+{}
 
 // The answers of the worked run: a record handed in twice, a minute fired, its production sent, doubled on the way,
 // delivered twice and acknowledged twice.
@@ -24,17 +23,14 @@ pub fn worked_answers() -> [u8; 13]
 // An acknowledgement that clears whatever is oldest loses a production.
 pub fn clearing_any_breaks_the_law()
     ensures { λ _. ⌜ Breaks counting (hasty counting) ⌝ }
-{
-}
+{}
 
 // Names that are dropped one second too early let a record in twice.
 pub fn forgetting_early_breaks_the_law()
     ensures { λ _. ⌜ Breaks counting (forgetful counting) ⌝ }
-{
-}
+{}
 
 // A low watermark that looks at no due makes a production late.
 pub fn passing_dues_breaks_the_law()
     ensures { λ _. ⌜ Breaks counting (dueless counting) ⌝ }
-{
-}
+{}
