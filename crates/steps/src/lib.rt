@@ -1,0 +1,7 @@
+// What taking a record, firing a due and clearing a production make of a stop's row, for any computation.
+mod emits;
+mod fires;
+mod takes;
+
+pub use fires::fire_row;
+pub use takes::take_record;
