@@ -82,7 +82,7 @@ module _ (kits : Kits) (ck : Keeps (kits .collector)) (sk : Keeps (kits .spotter
       (λ _. none)
       (λ _. send-head-moves (p .collector .queue))
 
-  send-moves : After other (happens kits (record { owed = 0; point = record { node = 0; row = 0; page = 0 } }) Send p)
+  send-moves : After other (happens kits (record { owed = 0; point = λ q. record { node = 0; row = 0; page = 0 }; wake = record { node = 0; row = 0; page = 0 } }) Send p)
   send-moves =
       cond-both (p .collector .power .on) (sendPending (pendingStops (p .collector .row)) p) (Plain Off, p) (After other)
       (λ _. send-pending-moves (pendingStops (p .collector .row)))
@@ -126,12 +126,12 @@ module _ (kits : Kits) (ck : Keeps (kits .collector)) (sk : Keeps (kits .spotter
   restart-moves free left tear junk r (inl e) =
       subst (After other) (sym e)
       (cond-both (leb tear 2 && eqb (length junk) pageBytes)
-      (restartAnswer left (free .point) (p .collector .power), record { row = p .collector .row; w = p .collector .w; power = restarted left tear (free .owed) (p .collector .power); queue = pendingStops (p .collector .row) })
+      (restartAnswer left (free .wake) (p .collector .power), record { row = p .collector .row; w = p .collector .w; power = restarted left tear (free .owed) (p .collector .power); queue = pendingStops (p .collector .row) })
       (OutOfRange, p .collector) (λ y. After other (atCollector y p)) (λ _. none) (λ _. none))
   restart-moves free left tear junk r (inr e) =
       subst (After other) (sym e)
       (cond-both (leb tear 2 && eqb (length junk) pageBytes)
-      (restartAnswer left (free .point) (p .spotter .power), record { row = p .spotter .row; w = p .spotter .w; power = restarted left tear (free .owed) (p .spotter .power); queue = pendingStops (p .spotter .row) })
+      (restartAnswer left (free .wake) (p .spotter .power), record { row = p .spotter .row; w = p .spotter .w; power = restarted left tear (free .owed) (p .spotter .power); queue = pendingStops (p .spotter .row) })
       (OutOfRange, p .spotter) (λ y. After other (atSpotter y p)) (λ _. none) (λ _. none))
 
   node-moves : (node : ℕ) (first second : Outcome × Pair) (deed : Bool → Deed) → After (deed true) first → After (deed false) second → After (deed true) (Plain OutOfRange, p) → After (deed false) (Plain OutOfRange, p) → After (deed (eqb node 0)) (atNode node first second p)

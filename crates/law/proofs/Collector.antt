@@ -88,11 +88,11 @@ module _ (kits : Kits) (ck : Keeps (kits .collector)) (es : List Event) (p : Pai
       refl refl (λ m k. inl k)
 
   -- the same by a commit, whose row is new or not
-  commit-grows : (free : Free) (s : ℕ) (new : Row) (T : Bool → List Record) (x : List Production) (tk : List Record) → T false ≡ [] → s < stops → new .pending ≡ rows s .pending ++ x → Steps s (record { crow = new; srow = p .spotter .row s; took = tk; made = made kits s es ++ x; landed = landed kits s es }) → tookAt s (T true) ≡ tk → ((q : ℕ) → (q ≡ s → ⊥) → tookAt q (T true) ≡ taken kits q es) → let did = wrote (kits .collector) (p .collector .power) (commitAnswer (kits .collector .cost) (free .point) (p .collector .power)) in let crow = cond (renewed (kits .collector .turn) (p .collector .power)) (withRow s new rows) rows in Moves (world crow (T did) (λ q. cond did (grew crow q) []) (p .link))
+  commit-grows : (free : Free) (s : ℕ) (new : Row) (T : Bool → List Record) (x : List Production) (tk : List Record) → T false ≡ [] → s < stops → new .pending ≡ rows s .pending ++ x → Steps s (record { crow = new; srow = p .spotter .row s; took = tk; made = made kits s es ++ x; landed = landed kits s es }) → tookAt s (T true) ≡ tk → ((q : ℕ) → (q ≡ s → ⊥) → tookAt q (T true) ≡ taken kits q es) → let did = wrote (kits .collector) (p .collector .power) (commitAnswer (kits .collector .cost) (free .point s) (p .collector .power)) in let crow = cond (renewed (kits .collector .turn) (p .collector .power)) (withRow s new rows) rows in Moves (world crow (T did) (λ q. cond did (grew crow q) []) (p .link))
   commit-grows free s new T x tk none h grows step here there =
-      let did = wrote (kits .collector) (p .collector .power) (commitAnswer (kits .collector .cost) (free .point) (p .collector .power)) in
+      let did = wrote (kits .collector) (p .collector .power) (commitAnswer (kits .collector .cost) (free .point s) (p .collector .power)) in
       subst (λ b. Moves (world (cond b (withRow s new rows) rows) (T did) (λ q. cond did (grew (cond b (withRow s new rows) rows) q) []) (p .link)))
-      (commit-wrote (kits .collector) (ck .turn-ends) (free .point) (p .collector .power)) (at did)
+      (commit-wrote (kits .collector) (ck .turn-ends) (free .point s) (p .collector .power)) (at did)
     where
       at : (b : Bool) → Moves (world (cond b (withRow s new rows) rows) (T b) (λ q. cond b (grew (cond b (withRow s new rows) rows) q) []) (p .link))
       at true = grows-at s new (T true) x tk h grows step here there

@@ -232,7 +232,7 @@ module _ (kit : Kit) (keeps : Keeps kit) (free : Free) (n : Node) (held : Held n
   pub restart-held : (left tear : ℕ) (junk : List ℕ) → Held (restart free left tear junk n .1)
   restart-held left tear junk =
       cond-both {A = Answer × Node} (leb tear 2 && eqb (length junk) pageBytes)
-      (restartAnswer left (free .point) (n .power), record { row = n .row; w = n .w; power = restarted left tear (free .owed) (n .power); queue = pendingStops (n .row) })
+      (restartAnswer left (free .wake) (n .power), record { row = n .row; w = n .w; power = restarted left tear (free .owed) (n .power); queue = pendingStops (n .row) })
       (OutOfRange, n) (λ y. Held (y .1))
       (λ _ on. let r = pending-right (n .row) in record { once = r .once; pending = r .pending; all = r .all })
       (λ _. held)

@@ -99,20 +99,20 @@ module _ (kits : Kits) (sk : Keeps (kits .spotter)) (es : List Event) (p : Pair)
       a′ = considered d (p .spotter .power .on) (p .spotter .w) (asRecord s x) (rows s)
 
       answer : Answer
-      answer = commitAnswer (kits .spotter .cost) (free .point) (p .spotter .power)
+      answer = commitAnswer (kits .spotter .cost) (free .point s) (p .spotter .power)
 
       -- word of a take goes back only if the row is new
       word : (y : Message) → Mem y (rest ++ reply s (x .serial) answer) → Mem y (p .link) ⊎ ((y ≡ Acknowledged s (x .serial)) × (renewed (kits .spotter .turn) (p .spotter .power) ≡ true))
       word y k = elim (mem-split y rest (reply s (x .serial) answer) k) [ inl old ↦ inl (left y old) | inr new ↦ inr (reply-mem s (x .serial) answer y new .0, done (or-cases (isDone answer) (isSeen answer) (reply-mem s (x .serial) answer y new .1))) ]
         where
           done : (isDone answer ≡ true) ⊎ (isSeen answer ≡ true) → renewed (kits .spotter .turn) (p .spotter .power) ≡ true
-          done (inl e) = done-renewed (kits .spotter) (sk .turn-ends) (free .point) (p .spotter .power) e
-          done (inr e) = absurd (both-ways (isSeen answer) (commit-unseen (kits .spotter .cost) (free .point) (p .spotter .power)) e)
+          done (inl e) = done-renewed (kits .spotter) (sk .turn-ends) (free .point s) (p .spotter .power) e
+          done (inr e) = absurd (both-ways (isSeen answer) (commit-unseen (kits .spotter .cost) (free .point s) (p .spotter .power)) e)
 
       taking : s < stops → Steps s (record { crow = p .collector .row s; srow = takenRow d (p .spotter .w) (asRecord s x) (rows s); took = taken kits s es; made = made kits s es; landed = landed kits s es ++ (x ∷ []) }) → Moves (world (cond (renewed (kits .spotter .turn) (p .spotter .power)) (withRow s (takenRow d (p .spotter .w) (asRecord s x) (rows s)) rows) rows) (landing (wrote (kits .spotter) (p .spotter .power) answer) s x) (rest ++ reply s (x .serial) answer))
       taking h step =
           subst (λ did. Moves (world (cond (renewed (kits .spotter .turn) (p .spotter .power)) (withRow s (takenRow d (p .spotter .w) (asRecord s x) (rows s)) rows) rows) (landing did s x) (rest ++ reply s (x .serial) answer)))
-          (sym (commit-wrote (kits .spotter) (sk .turn-ends) (free .point) (p .spotter .power)))
+          (sym (commit-wrote (kits .spotter) (sk .turn-ends) (free .point s) (p .spotter .power)))
           (landed-moves (renewed (kits .spotter .turn) (p .spotter .power)) s x (rest ++ reply s (x .serial) answer) h m step word)
 
       refusing : isDone a′ ≡ false → Moves (world rows (landing (wrote (kits .spotter) (p .spotter .power) a′) s x) (rest ++ reply s (x .serial) a′))

@@ -39,7 +39,9 @@ pub record Node : Type 0 where
 -- what a store leaves free: the writes that its next restart owes, and the place of a cut
 pub record Free : Type 0 where
   pub owed : ℕ
-  pub point : CutPoint
+  -- where a commit of each row is cut, and where a restart is
+  pub point : ℕ → CutPoint
+  pub wake : CutPoint
 
 -- a stop joins the queue at its back, keeps its place, or leaves when it has nothing pending
 abbrev pub stands : ℕ → List ℕ → Bool
@@ -56,7 +58,7 @@ withRow s new rows q = cond (eqb q s) new (rows q)
 -- the commit of a stop's row: the row is new by the store's rule
 abbrev pub commitRow : Kit → Free → ℕ → Row → Node → Answer × Node
 commitRow kit free s new n = (
-  commitAnswer (kit .cost) (free .point) (n .power),
+  commitAnswer (kit .cost) (free .point s) (n .power),
   record {
     row = cond (renewed (kit .turn) (n .power)) (withRow s new (n .row)) (n .row);
     w = n .w;
@@ -68,7 +70,7 @@ commitRow kit free s new n = (
 -- the commit of the watermark
 abbrev pub commitWatermark : Kit → Free → ℕ → Node → Answer × Node
 commitWatermark kit free t n = (
-  commitAnswer (kit .cost) (free .point) (n .power),
+  commitAnswer (kit .cost) (free .point stops) (n .power),
   record {
     row = n .row;
     w = cond (renewed (kit .turn) (n .power)) t (n .w);
@@ -122,7 +124,7 @@ clear kit free s serial n =
 abbrev pub restart : Free → ℕ → ℕ → List ℕ → Node → Answer × Node
 restart free left tear junk n =
     cond (leb tear 2 && eqb (length junk) pageBytes) (
-      restartAnswer left (free .point) (n .power),
+      restartAnswer left (free .wake) (n .power),
       record {
         row = n .row;
         w = n .w;

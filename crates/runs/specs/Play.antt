@@ -19,7 +19,7 @@ newPair = record { collector = newNode; spotter = newNode; link = [] }
 
 -- no call of these runs is cut, so that nothing comes to be owed
 abbrev pub uncut : Free
-uncut = record { owed = 0; point = record { node = 0; row = 0; page = 0 } }
+uncut = record { owed = 0; point = λ q. record { node = 0; row = 0; page = 0 }; wake = record { node = 0; row = 0; page = 0 } }
 
 abbrev pub event : Call → Pair → Outcome × Pair → Event
 event call p r = record { call = call; free = uncut; outcome = r .0; before = p; after = r .1 }
