@@ -60,7 +60,7 @@ module _ (s : ℕ) (xs : List ℕ) (i : ℕ) (h : i < length xs) where
       → zs ≡ left-by s (take (i + 1) xs)
   left-more ys zs r short other e room pushed =
       let few : length ys ≤ i =
-            subst (λ (ws : List ℕ). length ws ≤ i) (sym e) (omega (arith, length-kept-by (λ (q : ℕ). not (eqb q s)) (take i xs), countBy-le-length (λ (q : ℕ). not (eqb q s)) (take i xs), length-take i xs)) in
+      subst (λ (ws : List ℕ). length ws ≤ i) (sym e) (omega (arith, length-kept-by (λ (q : ℕ). not (eqb q s)) (take i xs), countBy-le-length (λ (q : ℕ). not (eqb q s)) (take i xs), length-take i xs)) in
       let there : r ≡ true = room ∙ lt-ltb _ _ (omega arith) in
       pushed ∙ cond-true r _ _ there ∙ ap (λ (ws : List ℕ). ws ++ getD xs i 0 ∷ []) e
       ∙ ap (λ (b : Bool). left-by s (take i xs) ++ cond (not b) (getD xs i 0 ∷ []) []) (sym (ne-eqb _ _ other)) ∙ sym step

@@ -13,13 +13,13 @@ pub loop-other-again : need.loop-other-again
 loop-other-again c =
     let xs = c .as-slice-other-items .result .now in
     elim (c .if-other-stop .came) [
-      then-other-stop w ↦
-        ap listed (w .rest-is)
-        ∙ left-more (c .args .stop) xs (c .loop-other .other-index) (c .loop-other-test .taken) _ _ (w .push .result)
+      | then-other-stop w ↦
+          ap listed (w .rest-is)
+          ∙ left-more (c .args .stop) xs (c .loop-other .other-index) (c .loop-other-test .taken) _ _ (w .push .result)
           (c .as-slice-other-items .ensures .bound) (w .if-other-stop .taken) (c .loop-other .inv) (w .push .ensures .room) (w .push .ensures .items)
-    | else-other-stop w ↦
-        ap listed (w .rest-is)
-        ∙ left-same (c .args .stop) xs (c .loop-other .other-index) (c .loop-other-test .taken) _ (w .if-other-stop .left) (c .loop-other .inv)
+      | else-other-stop w ↦
+          ap listed (w .rest-is)
+          ∙ left-same (c .args .stop) xs (c .loop-other .other-index) (c .loop-other-test .taken) _ (w .if-other-stop .left) (c .loop-other .inv)
     ]
 
 pub returns : need.returns
