@@ -38,15 +38,15 @@ with-row true s n q new bytes p queue k within stands =
     record {
       count = length-set (s .rows) q bytes ∙ k .count;
       row = λ r h.
-        elim (cases-eq r q) [
-          inl same ↦
-            subst (λ (b : Bool). Stands (getD (set (s .rows) q bytes) r []) (cond b new (n .row r))) (sym (eq-eqb r q same))
-            (subst (λ (x : ℕ). Stands (getD (set (s .rows) q bytes) x []) new) (sym same)
-              (subst (λ (bs : List ℕ). Stands bs new) (sym (getD-set-same (s .rows) q bytes [] (omega (arith, k .count)))) stands))
-        | inr other ↦
-            subst (λ (b : Bool). Stands (getD (set (s .rows) q bytes) r []) (cond b new (n .row r))) (sym (ne-eqb r q other))
-            (subst (λ (bs : List ℕ). Stands bs (n .row r)) (sym (getD-set-other (s .rows) q r bytes [] other)) (k .row r h))
-        ];
+          elim (cases-eq r q) [
+            | inl same ↦
+                subst (λ (b : Bool). Stands (getD (set (s .rows) q bytes) r []) (cond b new (n .row r))) (sym (eq-eqb r q same))
+                (subst (λ (x : ℕ). Stands (getD (set (s .rows) q bytes) x []) new) (sym same)
+                (subst (λ (bs : List ℕ). Stands bs new) (sym (getD-set-same (s .rows) q bytes [] (omega (arith, k .count)))) stands))
+            | inr other ↦
+                subst (λ (b : Bool). Stands (getD (set (s .rows) q bytes) r []) (cond b new (n .row r))) (sym (ne-eqb r q other))
+                (subst (λ (bs : List ℕ). Stands bs (n .row r)) (sym (getD-set-other (s .rows) q r bytes [] other)) (k .row r h))
+          ];
       watermark = getD-set-other (s .rows) q stops bytes [] (λ e. omega (arith, e)) ∙ k .watermark;
       watermark-fits = k .watermark-fits;
       power = refl;
@@ -71,7 +71,7 @@ with-watermark true s n w bytes p k small is =
     record {
       count = length-set (s .rows) stops bytes ∙ k .count;
       row = λ r h.
-        subst (λ (bs : List ℕ). Stands bs (n .row r)) (sym (getD-set-other (s .rows) stops r bytes [] (λ e. omega (arith, e)))) (k .row r h);
+          subst (λ (bs : List ℕ). Stands bs (n .row r)) (sym (getD-set-other (s .rows) stops r bytes [] (λ e. omega (arith, e)))) (k .row r h);
       watermark = getD-set-same (s .rows) stops bytes [] (omega (arith, k .count)) ∙ is;
       watermark-fits = small;
       power = refl;
@@ -123,9 +123,11 @@ module _ (kit : Kit) (free : Free) (s t : Stored) (q : ℕ) (bytes : List ℕ) (
       → (a ≡ commitRow kit free q new n .0) × Kept t (commitRow kit free q new n .1)
   unfolding rows-after
   row-committed new stands size answers means n k on within =
-      let d = done size answers means n k on (omega arith) in
-      (d .0, subst (λ (x : Stored). Kept x (commitRow kit free q new n .1)) (sym (d .1))
-        (with-row (renewed (kit .turn) (n .power)) s n q new bytes (spent (kit .cost) (free .owed) (n .power)) (commitRow kit free q new n .1 .queue) k within stands))
+      let d = done size answers means n k on (omega arith) in (
+        d .0,
+        subst (λ (x : Stored). Kept x (commitRow kit free q new n .1)) (sym (d .1))
+            (with-row (renewed (kit .turn) (n .power)) s n q new bytes (spent (kit .cost) (free .owed) (n .power)) (commitRow kit free q new n .1 .queue) k within stands),
+      )
 
 module _ (kit : Kit) (free : Free) (s t : Stored) (bytes : List ℕ) (a : Answer) where
   -- and of the watermark
@@ -141,6 +143,8 @@ module _ (kit : Kit) (free : Free) (s t : Stored) (bytes : List ℕ) (a : Answer
       → (a ≡ commitWatermark kit free w n .0) × (w ≤ lastTime → Kept t (commitWatermark kit free w n .1))
   unfolding rows-after
   watermark-committed w is size answers means n k on =
-      let d = done kit free s t stops bytes a size answers means n k on (omega arith) in
-      (d .0, λ small. subst (λ (x : Stored). Kept x (commitWatermark kit free w n .1)) (sym (d .1))
-        (with-watermark (renewed (kit .turn) (n .power)) s n w bytes (spent (kit .cost) (free .owed) (n .power)) k small is))
+      let d = done kit free s t stops bytes a size answers means n k on (omega arith) in (
+        d .0,
+        λ small. subst (λ (x : Stored). Kept x (commitWatermark kit free w n .1)) (sym (d .1))
+            (with-watermark (renewed (kit .turn) (n .power)) s n w bytes (spent (kit .cost) (free .owed) (n .power)) k small is),
+      )
