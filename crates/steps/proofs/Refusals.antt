@@ -36,7 +36,7 @@ module _ (c : Computation (List ℕ)) (on : Bool) (w : ℕ) (r : Record) (row ot
       → Refused c on w r row a
   refused-room let-in emits is-floor few same-pending same-next answers not-done =
       let short : length (kept (floorOf c w (takeOf c w r row .0)) (row .names)) < mostNames =
-            ltb-true _ _ (ap (λ (f : ℕ). ltb (length (kept f (row .names))) mostNames) (sym is-floor) ∙ sym few) in
+      ltb-true _ _ (ap (λ (f : ℕ). ltb (length (kept f (row .names))) mostNames) (sym is-floor) ∙ sym few) in
       let room : roomToTake c w r row ≡ roomFor (takeOf c w r row .1) row = cond-false _ _ _ (lt-leb _ _ short) in
       let told : considered c on w r row ≡ roomToTake c w r row = cond-true _ _ _ (ap isDone let-in) in
       record {

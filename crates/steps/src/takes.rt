@@ -14,7 +14,13 @@ use rows::StopRow;
 
 // Takes a record into a row at a watermark, and gives the stop's new floor; or the answer that refuses it, and the row
 // is then of no more use. Whether the name was seen has been asked before.
-pub fn take_record<C: Computation>(row: &mut StopRow, on: bool, w: u32, seen: bool, given: &Record) -> Result<u32, Answer>
+pub fn take_record<C: Computation>(
+    row: &mut StopRow,
+    on: bool,
+    w: u32,
+    seen: bool,
+    given: &Record,
+) -> Result<u32, Answer>
     ensures { λ r. ⌜ (seen ≡ seenIn (now (given .entry) .name) (rowOf (now (row .entry)) .names) → Cases r (Took (onBytes operations) on w (now (given .entry)) (rowOf (now (row .entry))) (rowOf (now (row .exit)))) (Refused (onBytes operations) on w (now (given .entry)) (rowOf (now (row .entry))))) ⌝ }
 {
     let (state, emission) = match consider::<C>(row.state(), on, w, seen, given) {

@@ -23,7 +23,7 @@ returns-in-rest g c = λ e.
     let after = taken .after ∙ ap (λ (bs : List ℕ). plain .take (plain .load bs) w (given .name .time) (given .amount)) (c .state .ensures) in
     let back = g .C·Computation·met .lawful .reads-back _ (taken .sound) in
     let is-floor : c .max-floor .result ≡ floorOf ops w (takeOf ops w given row .0) =
-          c .max-floor .ensures ∙ ap (λ (m : ℕ). max m w) (c .mark .ensures (taken .sound) ∙ ap (plain .mark) (sym back ∙ ap (λ x. plain .load (plain .store (x .0))) after)) in
+    c .max-floor .ensures ∙ ap (λ (m : ℕ). max m w) (c .mark .ensures (taken .sound) ∙ ap (plain .mark) (sym back ∙ ap (λ x. plain .load (plain .store (x .0))) after)) in
     let kept = c .if-not-remember .ensures tt .after in
     refused-room ops (c .args .on) w given row (rowOf (c .remember .last .self)) (c .max-floor .result) (c .in-Ok .taken .1) (c .emit .result)
     let-in (ap (λ x. x .1) (sym after)) is-floor (c .if-not-remember .ensures tt .room) (ap (λ (x : Row). x .pending) kept) (ap (λ (x : Row). x .next) kept) (c .emit .ensures .answer) (c .in-rest .not-Done)
