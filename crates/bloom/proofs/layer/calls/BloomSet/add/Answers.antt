@@ -1,7 +1,7 @@
 use mathlib.Core.Path.{refl, ap, sym, _∙_}
 use Rattle.bloom.specs.Layer.{layerBits, bitsAfter}
 use Rattle.bloom.proofs.Marking.{added-fit}
-use Rattle.bloom.proofs.layer.BloomSet.add.Needs as need
+use Rattle.bloom.proofs.layer.calls.BloomSet.add.Needs as need
 
 pub returns-in-Done : need.returns-in-Done
 returns-in-Done g c = record {
