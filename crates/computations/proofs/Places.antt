@@ -5,7 +5,7 @@ use mathlib.Core.List.{List, [], _∷_, _++_}
 use native.Mathlib.Omega.{arith}
 use native.Mathlib.Nat.{div-div-eq-div-mul}
 use lib.ListN.{length, getD, replicate}
-use Rattle.computations.specs.Bytes.{u16At, u32At, u16Bytes, u32Bytes}
+use Rattle.model.specs.Bytes.{u16At, u32At, u16Bytes, u32Bytes}
 
 pub u16-back : (n : ℕ) → n < 65536 → u16At (u16Bytes n) 0 ≡ n
 u16-back n h = omega arith

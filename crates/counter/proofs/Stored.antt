@@ -6,7 +6,7 @@ use native.Mathlib.Omega.{arith}
 use lib.ListN.{length, getD, replicate}
 use Rattle.model.specs.Limits.{lastTime, mostAmount}
 use Rattle.model.specs.Computation.{StateBytes}
-use Rattle.computations.specs.Bytes.{u16At, u32At, u16Bytes, u32Bytes}
+use Rattle.model.specs.Bytes.{u16At, u32At, u16Bytes, u32Bytes}
 use Rattle.computations.proofs.Places.{u16-back, u32-back, u16-small, u32-small, u16-fits, IsByte, all-places, each-place, joined, zeros}
 use Rattle.counter.specs.Counter.{CounterSound, counterStore, counterLoad}
 use Rattle.counter.specs.declared.state.CounterState.{CounterState}

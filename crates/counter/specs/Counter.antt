@@ -11,7 +11,7 @@ use Rattle.std.specs.declared.option.Option.the-variants.{Some, None}
 use Rattle.std.specs.shelf.Lists.{sum}
 use Rattle.model.specs.Computation.{Computation}
 use Rattle.model.specs.Limits.{lastTime, mostAmount}
-use Rattle.computations.specs.Bytes.{u32At, u16At, u32Bytes, u16Bytes}
+use Rattle.model.specs.Bytes.{u32At, u16At, u32Bytes, u16Bytes}
 use Rattle.model.specs.declared.answer.Verdict.{Verdict}
 use Rattle.model.specs.declared.answer.Verdict.the-variants.{TooEarly, TooMuch, Fine}
 use Rattle.counter.specs.declared.state.CounterState.{CounterState}

@@ -15,7 +15,7 @@ use Rattle.std.proofs.shelf.Ways.{tells, leb-tells}
 use Rattle.model.specs.Computation.{Lawful, Totals, Takes, Fires, Emits, StateBytes}
 use Rattle.model.specs.Limits.{lastTime, mostAmount}
 use Rattle.model.specs.declared.answer.Verdict.the-variants.{Fine}
-use Rattle.computations.specs.Bytes.{u32Bytes, u32At}
+use Rattle.model.specs.Bytes.{u32Bytes, u32At}
 use Rattle.computations.proofs.Places.{u32-back, u32-small, u32-fits, IsByte, joined, zeros}
 use Rattle.detector.specs.Detector.{detector, DetectorSound, detectorStore, detectorLoad, detectorTake, moved, spike, sixteenths, mostPredicted, mostTotal}
 use Rattle.detector.specs.declared.state.DetectorState.{DetectorState}

@@ -13,7 +13,7 @@ use Rattle.model.specs.Computation.{Computation}
 use Rattle.model.specs.Limits.{lastTime, mostAmount}
 use Rattle.model.specs.declared.answer.Verdict.{Verdict}
 use Rattle.model.specs.declared.answer.Verdict.the-variants.{TooMuch, Fine}
-use Rattle.computations.specs.Bytes.{u32At, u32Bytes}
+use Rattle.model.specs.Bytes.{u32At, u32Bytes}
 use Rattle.detector.specs.declared.state.DetectorState.{DetectorState}
 
 -- predictions are in sixteenths

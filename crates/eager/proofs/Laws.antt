@@ -10,7 +10,7 @@ use Rattle.std.specs.declared.option.Option.{Option}
 use Rattle.std.specs.declared.option.Option.the-variants.{Some, None}
 use Rattle.model.specs.Computation.{Lawful, Takes, Fires, Emits, Upto, StateBytes}
 use Rattle.model.specs.Limits.{lastTime, mostAmount}
-use Rattle.computations.specs.Bytes.{u32At, u32Bytes}
+use Rattle.model.specs.Bytes.{u32At, u32Bytes}
 use Rattle.computations.proofs.Places.{u32-back, u32-small, IsByte, each-place, joined, zeros}
 use Rattle.eager.specs.Eager.{eager, EagerSound, InTime, eagerStore, eagerLoad, eagerFire, dueOr, dueBytes, pushed}
 use Rattle.eager.specs.declared.state.EagerState.{EagerState}

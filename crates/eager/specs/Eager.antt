@@ -12,7 +12,7 @@ use Rattle.model.specs.Computation.{Computation}
 use Rattle.model.specs.Limits.{lastTime, mostAmount}
 use Rattle.model.specs.declared.answer.Verdict.{Verdict}
 use Rattle.model.specs.declared.answer.Verdict.the-variants.{TooEarly, TooMuch, Fine}
-use Rattle.computations.specs.Bytes.{u32At, u32Bytes}
+use Rattle.model.specs.Bytes.{u32At, u32Bytes}
 use Rattle.eager.specs.declared.state.EagerState.{EagerState}
 
 abbrev pub eagerVerdict : EagerState → ℕ → ℕ → ℕ → Verdict

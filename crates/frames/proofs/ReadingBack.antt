@@ -19,7 +19,7 @@ use Rattle.model.specs.declared.answer.Fault.the-variants.{HeaderShort, WrongLe
 use Rattle.model.specs.declared.call.Call.{Call}
 use Rattle.frames.specs.declared.kind.Kind.{Kind}
 use Rattle.frames.specs.declared.kind.Kind.the-variants.{HandIn, Advance, Fire, Send, Lose, Repeat, Deliver, Pass, Restart, Show, MarkDone}
-use Rattle.frames.specs.Bytes.{u16At, u16Bytes}
+use Rattle.model.specs.Bytes.{u16At, u16Bytes}
 use Rattle.frames.specs.Calls.{bodyOf, callOf, frameOf, kindFor}
 use Rattle.frames.specs.Frames.{framed}
 use Rattle.frames.specs.Kinds.{fits, kindNumber, kindOf}

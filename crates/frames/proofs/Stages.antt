@@ -14,7 +14,7 @@ use Rattle.std.specs.declared.result.Result.the-variants.{Ok, Err}
 use Rattle.model.specs.declared.answer.Fault.{Fault}
 use Rattle.model.specs.declared.answer.Fault.the-variants.{HeaderShort, UnknownKind, WrongLength, BodyShort}
 use Rattle.frames.specs.declared.kind.Kind.{Kind}
-use Rattle.frames.specs.Bytes.{u16At, u16Bytes}
+use Rattle.model.specs.Bytes.{u16At, u16Bytes}
 use Rattle.frames.specs.Kinds.{fits, kindNumber, kindOf}
 use Rattle.frames.specs.Frames.{framed}
 use Rattle.frames.specs.Reading.{Standing, afterHeader, standsAt}

@@ -15,7 +15,7 @@ use Rattle.model.specs.declared.call.Call.the-variants as call
 use Rattle.model.specs.declared.call.Junk.the-variants.{Fill, Page}
 use Rattle.frames.specs.declared.kind.Kind.{Kind}
 use Rattle.frames.specs.declared.kind.Kind.the-variants as kind
-use Rattle.frames.specs.Bytes.{u16At, u32At, u16Bytes, u32Bytes}
+use Rattle.model.specs.Bytes.{u16At, u32At, u16Bytes, u32Bytes}
 use Rattle.frames.specs.Frames.{framed}
 use Rattle.frames.specs.Kinds.{fits}
 

@@ -7,7 +7,7 @@ use Rattle.frames.specs.declared.frame.Frame.{Frame}
 use Rattle.frames.specs.declared.frame.Frame.the-variants as frame
 use Rattle.frames.specs.declared.kind.Kind.{Kind}
 use Rattle.frames.specs.declared.kind.Kind.the-variants as kind
-use Rattle.frames.specs.Bytes.{u16Bytes}
+use Rattle.model.specs.Bytes.{u16Bytes}
 use Rattle.frames.specs.Kinds.{kindNumber}
 
 abbrev pub frameKind : Frame → Kind

@@ -12,7 +12,7 @@ use Rattle.model.specs.declared.answer.Fault.{Fault}
 use Rattle.model.specs.declared.answer.Fault.the-variants.{HeaderShort, UnknownKind, WrongLength, BodyShort}
 use Rattle.model.specs.declared.call.Call.{Call}
 use Rattle.frames.specs.declared.kind.Kind.{Kind}
-use Rattle.frames.specs.Bytes.{u16At}
+use Rattle.model.specs.Bytes.{u16At}
 use Rattle.frames.specs.Calls.{callOf}
 use Rattle.frames.specs.Kinds.{fits, kindOf}
 

@@ -3,7 +3,7 @@ ghost use mathlib.Core.Path.{_≡_};
 ghost use mathlib.Core.List.{[], _∷_};
 ghost use Prim.Native.Nat.{_+_, _≤_};
 ghost use lib.ListN.{getD, length};
-ghost use Rattle.frames.specs.Bytes.{u16At, u16Bytes, u32At, u32Bytes};
+ghost use Rattle.model.specs.Bytes.{u16At, u16Bytes, u32At, u32Bytes};
 
 pub fn u16_at(bytes: &[u8], place: usize) -> u16
     requires { ⌜ place + 2 ≤ length (now bytes) ⌝ }

@@ -15,7 +15,9 @@ use Rattle.model.specs.Row.{Row}
 use Rattle.model.specs.declared.record.Production.{Production}
 use Rattle.law.specs.Bests.{FirstDue, Crowd, Lows, Bests}
 use Rattle.law.specs.Lists.{Mem}
-use Rattle.law.specs.Stops.{better, firstBest, earliest, greatest, oldest, leastTime, leastDue, lowBelow, lowest}
+use Rattle.model.specs.FirstBest.{better, firstBest}
+use Rattle.model.specs.Row.{oldest}
+use Rattle.law.specs.Stops.{earliest, greatest, leastTime, leastDue, lowBelow, lowest}
 use Rattle.law.proofs.Next.{none-some}
 
 pub less : (s n : ℕ) → s < suc n → (s ≡ n → ⊥) → s < n

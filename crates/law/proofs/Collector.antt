@@ -24,7 +24,9 @@ use Rattle.model.specs.declared.record.Record.{Record}
 use Rattle.law.specs.Lists.{Mem}
 use Rattle.law.specs.Node.{Node, Free, Keeps, withRow, wrote, commitRow, commitWatermark, handIn, handInAs, raise, advance, fire, fireDue, fireAs, clear, clearOldest}
 use Rattle.law.specs.Pair.{Kits, Pair, atCollector, withLink}
-use Rattle.law.specs.Rows.{isDone, isCut, considered, takeOf, takenRow, firedRow, clearedRow, produced, roomForOne, isOldest}
+use Rattle.model.specs.Answers.{isDone, isCut}
+use Rattle.model.specs.Row.{clearedRow, roomForOne}
+use Rattle.law.specs.Rows.{considered, takeOf, takenRow, firedRow, produced, isOldest}
 use Rattle.law.specs.Run.{Event, Deed, hands, fires, other, allTaken, taken, made, landed}
 use Rattle.law.specs.Stops.{earliest}
 use Rattle.law.proofs.Best.{earliest-due}

@@ -24,7 +24,10 @@ use Rattle.model.specs.declared.record.Name.{Name}
 use Rattle.model.specs.declared.record.Record.{Record}
 use Rattle.law.specs.Lists.{Mem}
 use Rattle.law.specs.Node.{Kit, wrote}
-use Rattle.law.specs.Rows.{isDone, isSeen, isCut, sameName, seen, kept, floorOf, takeOf, roomForOne, roomFor, admitted, roomToTake, considered}
+use Rattle.model.specs.Answers.{isDone, isSeen, isCut}
+use Rattle.model.specs.Names.{sameName, kept}
+use Rattle.model.specs.Row.{roomForOne}
+use Rattle.law.specs.Rows.{seen, floorOf, takeOf, roomFor, admitted, roomToTake, considered}
 use Rattle.law.proofs.Moves.{Lets}
 
 -- a row that can produce, or not, is no cut, and does not say seen
@@ -91,26 +94,26 @@ admission-seen true true false false Fine e = absurd (false≢true e)
 -- a name stands among the names exactly if it was seen
 same-name : (m n : Name) → sameName m n ≡ true → m ≡ n
 same-name m n e =
-    let p = and-parts (eqb (m .sender) (n .sender)) (eqb (m .serial) (n .serial) && eqb (m .time) (n .time)) e in
-    let q = and-parts (eqb (m .serial) (n .serial)) (eqb (m .time) (n .time)) (p .1) in
-    λ i. record { sender = eqb-true (m .sender) (n .sender) (p .0) i; serial = eqb-true (m .serial) (n .serial) (q .0) i; time = eqb-true (m .time) (n .time) (q .1) i }
+    let p = and-parts (eqb (m .serial) (n .serial)) (eqb (m .time) (n .time) && eqb (m .sender) (n .sender)) e in
+    let q = and-parts (eqb (m .time) (n .time)) (eqb (m .sender) (n .sender)) (p .1) in
+    λ i. record { sender = eqb-true (m .sender) (n .sender) (q .1) i; serial = eqb-true (m .serial) (n .serial) (p .0) i; time = eqb-true (m .time) (n .time) (q .0) i }
 
 name-same : (m n : Name) → m ≡ n → sameName m n ≡ true
 name-same m n e =
-    and-from (eqb (m .sender) (n .sender)) (eqb (m .serial) (n .serial) && eqb (m .time) (n .time)) (eq-eqb (m .sender) (n .sender) (ap (λ (x : Name). x .sender) e))
-    (and-from (eqb (m .serial) (n .serial)) (eqb (m .time) (n .time)) (eq-eqb (m .serial) (n .serial) (ap (λ (x : Name). x .serial) e)) (eq-eqb (m .time) (n .time) (ap (λ (x : Name). x .time) e)))
+    and-from (eqb (m .serial) (n .serial)) (eqb (m .time) (n .time) && eqb (m .sender) (n .sender)) (eq-eqb (m .serial) (n .serial) (ap (λ (x : Name). x .serial) e))
+    (and-from (eqb (m .time) (n .time)) (eqb (m .sender) (n .sender)) (eq-eqb (m .time) (n .time) (ap (λ (x : Name). x .time) e)) (eq-eqb (m .sender) (n .sender) (ap (λ (x : Name). x .sender) e)))
 
 pub mem-seen : (n : Name) (names : List Name) → Mem n names → seen n names ≡ true
 mem-seen n [] m = absurd m
-mem-seen n (x ∷ names) (inl e) = or-left (sameName n x) (seen n names) (name-same n x e)
-mem-seen n (x ∷ names) (inr m) = or-right (sameName n x) (seen n names) (mem-seen n names m)
+mem-seen n (x ∷ names) (inl e) = or-left (sameName x n) (seen n names) (name-same x n (sym e))
+mem-seen n (x ∷ names) (inr m) = or-right (sameName x n) (seen n names) (mem-seen n names m)
 
 pub seen-mem : (n : Name) (names : List Name) → seen n names ≡ true → Mem n names
 seen-mem n [] e = absurd (false≢true e)
-seen-mem n (x ∷ names) e = at (sameName n x) refl e (seen-mem n names)
+seen-mem n (x ∷ names) e = at (sameName x n) refl e (seen-mem n names)
   where
-    at : (b : Bool) → sameName n x ≡ b → (b || seen n names) ≡ true → (seen n names ≡ true → Mem n names) → Mem n (x ∷ names)
-    at true t h below = inl (same-name n x t)
+    at : (b : Bool) → sameName x n ≡ b → (b || seen n names) ≡ true → (seen n names ≡ true → Mem n names) → Mem n (x ∷ names)
+    at true t h below = inl (sym (same-name x n t))
     at false t h below = inr (below h)
 
 module _ (c : Computation (List ℕ)) (on : Bool) (w : ℕ) (r : Record) (row : Row) where

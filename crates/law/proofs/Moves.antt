@@ -16,7 +16,8 @@ use Rattle.model.specs.declared.record.Production.{Production}
 use Rattle.model.specs.declared.record.Record.{Record}
 use Rattle.law.specs.Lists.{Mem, Apart}
 use Rattle.law.specs.Pair.{asRecord}
-use Rattle.law.specs.Rows.{floorOf, takeOf, takenRow, firedRow, clearedRow, produced}
+use Rattle.model.specs.Row.{clearedRow}
+use Rattle.law.specs.Rows.{floorOf, takeOf, takenRow, firedRow, produced}
 use Rattle.law.proofs.World.{Lane, World}
 
 -- a record is let in: in range, not late, not seen, and the computation says neither early nor over

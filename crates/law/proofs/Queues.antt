@@ -22,7 +22,9 @@ use Rattle.law.specs.Law.{Queued}
 use Rattle.law.specs.Lists.{Mem, Apart}
 use Rattle.law.specs.Node.{Kit, Node, Free, Keeps, stands, requeued, withRow, commitRow, commitWatermark, handIn, raise, advance, fire, fireDue, fireAs, clear, clearOldest, restart}
 use Rattle.law.specs.Pair.{turned, turnedNode}
-use Rattle.law.specs.Rows.{isDone, considered, takenRow, firedRow, clearedRow, roomForOne, isOldest}
+use Rattle.model.specs.Answers.{isDone}
+use Rattle.model.specs.Row.{clearedRow, roomForOne}
+use Rattle.law.specs.Rows.{considered, takenRow, firedRow, isOldest}
 use Rattle.law.specs.Stops.{listed, pendingBelow, pendingStops, earliest}
 use Rattle.law.proofs.Best.{earliest-due, less}
 use Rattle.law.proofs.Judged.{considered-stop, considered-on}

@@ -23,7 +23,9 @@ use Rattle.model.specs.declared.record.Record.{Record}
 use Rattle.law.specs.Lists.{Mem}
 use Rattle.law.specs.Node.{Node, Free, Keeps, withRow, wrote, commitRow, commitWatermark, handIn, raise, fire, fireDue, fireAs, clear, clearOldest}
 use Rattle.law.specs.Pair.{Kits, Pair, atSpotter, arrives, asRecord, reply, lowWatermark}
-use Rattle.law.specs.Rows.{isDone, isSeen, isCut, considered, takeOf, takenRow, firedRow, clearedRow, stepped, roomForOne, isOldest}
+use Rattle.model.specs.Answers.{isDone, isSeen, isCut}
+use Rattle.model.specs.Row.{clearedRow, roomForOne}
+use Rattle.law.specs.Rows.{considered, takeOf, takenRow, firedRow, stepped, isOldest}
 use Rattle.law.specs.Run.{Event, lands, other, taken, made, landed}
 use Rattle.law.specs.Stops.{earliest}
 use Rattle.law.proofs.Best.{earliest-due, low-tells}

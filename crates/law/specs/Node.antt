@@ -18,7 +18,9 @@ use Rattle.model.specs.declared.answer.Answer.the-variants.{OutOfRange, Off, No
 use Rattle.model.specs.declared.answer.CutPoint.{CutPoint}
 use Rattle.model.specs.declared.record.Production.{Production}
 use Rattle.model.specs.declared.record.Record.{Record}
-use Rattle.law.specs.Rows.{isDone, isCut, considered, takenRow, firedRow, clearedRow, isOldest, roomForOne}
+use Rattle.model.specs.Answers.{isDone, isCut}
+use Rattle.model.specs.Row.{clearedRow, roomForOne}
+use Rattle.law.specs.Rows.{considered, takenRow, firedRow, isOldest}
 use Rattle.law.specs.Stops.{earliest, pendingStops}
 
 -- what a node is made of: its computation, and what a commit costs its store and at which write the row turns new

@@ -22,8 +22,9 @@ use Rattle.model.specs.declared.record.Message.the-variants.{Produced, Acknowle
 use Rattle.model.specs.declared.record.Production.{Production}
 use Rattle.model.specs.declared.record.Record.{Record}
 use Rattle.law.specs.Node.{Kit, Node, Free, handIn, advance, raise, fire, clear, restart}
-use Rattle.law.specs.Rows.{isDone, isSeen}
-use Rattle.law.specs.Stops.{greatest, lowest, oldest, pendingStops}
+use Rattle.model.specs.Answers.{isDone, isSeen}
+use Rattle.model.specs.Row.{oldest}
+use Rattle.law.specs.Stops.{greatest, lowest, pendingStops}
 
 pub record Kits : Type 0 where
   pub collector : Kit

@@ -8,44 +8,24 @@ use Rattle.std.specs.shelf.Lists.{kept-by}
 use Rattle.std.specs.declared.option.Option.{Option}
 use Rattle.std.specs.declared.option.Option.the-variants.{Some, None}
 use Rattle.model.specs.Admission.{judged}
-use Rattle.model.specs.Answers.{answerNumber}
+use Rattle.model.specs.Answers.{isDone}
 use Rattle.model.specs.Computation.{Computation}
 use Rattle.model.specs.Limits.{lastSerial, mostPending, mostNames}
-use Rattle.model.specs.Row.{Row}
+use Rattle.model.specs.Names.{named, kept}
+use Rattle.model.specs.Row.{Row, roomForOne}
 use Rattle.model.specs.declared.answer.Answer.{Answer}
 use Rattle.model.specs.declared.answer.Answer.the-variants.{Done, Over, Full, NoRoom}
 use Rattle.model.specs.declared.record.Name.{Name}
 use Rattle.model.specs.declared.record.Record.{Record}
 use Rattle.model.specs.declared.record.Production.{Production}
 
-abbrev pub isDone : Answer → Bool
-isDone a = eqb (answerNumber a) 0
-
-abbrev pub isSeen : Answer → Bool
-isSeen a = eqb (answerNumber a) 4
-
-abbrev pub isCut : Answer → Bool
-isCut a = eqb (answerNumber a) 9
-
-abbrev pub sameName : Name → Name → Bool
-sameName m n = eqb (m .sender) (n .sender) && (eqb (m .serial) (n .serial) && eqb (m .time) (n .time))
-
 -- a name stands among the names
 abbrev pub seen : Name → List Name → Bool
-seen n [] = false
-seen n (m ∷ ms) = sameName n m || seen n ms
-
--- the names whose times are not below a floor
-abbrev pub kept : ℕ → List Name → List Name
-kept floor names = kept-by (λ n. leb floor (n .time)) names
+seen n names = named names n
 
 -- below the floor of a stop, which is the larger of mark and watermark, a record is late
 abbrev pub floorOf : Computation (List ℕ) → ℕ → List ℕ → ℕ
 floorOf c w state = max (c .mark state) w
-
--- a stop with four pending productions, or with no serial left, can produce nothing more
-abbrev pub roomForOne : Row → Answer
-roomForOne row = cond (leb mostPending (length (row .pending))) NoRoom (cond (leb lastSerial (row .next)) Over Done)
 
 abbrev pub roomFor : Option (ℕ × ℕ) → Row → Answer
 roomFor None row = Done
@@ -81,10 +61,6 @@ takenRow c w r row = withName (r .name) (stepped c w (takeOf c w r row) row)
 
 abbrev pub firedRow : Computation (List ℕ) → ℕ → Row → Row
 firedRow c w row = stepped c w (c .fire (row .state)) row
-
--- the row without its oldest pending production
-abbrev pub clearedRow : Row → Row
-clearedRow row = record { next = row .next; state = row .state; pending = drop 1 (row .pending); names = row .names }
 
 -- a serial is that of the oldest pending production
 abbrev pub isOldest : ℕ → List Production → Bool

@@ -7,27 +7,13 @@ use Rattle.std.specs.declared.option.Option.{Option}
 use Rattle.std.specs.declared.option.Option.the-variants.{Some, None}
 use Rattle.model.specs.Computation.{Computation}
 use Rattle.model.specs.Limits.{stops}
-use Rattle.model.specs.Row.{Row}
+use Rattle.model.specs.FirstBest.{firstBest}
+use Rattle.model.specs.Row.{Row, oldest}
 use Rattle.model.specs.declared.record.Production.{Production}
-
--- of the stops below a number, the one whose entry is better than all before it and not worse than any after it:
--- the best, ties to the lowest stop
-abbrev pub better : {X : Type 0} → (X → X → Bool) → Option (ℕ × X) → ℕ → Option X → Option (ℕ × X)
-better beats best s None = best
-better beats None s (Some x) = Some (s, x)
-better beats (Some b) s (Some x) = cond (beats x (b .1)) (Some (s, x)) (Some b)
-
-unfoldable pub firstBest : {X : Type 0} → (X → X → Bool) → (ℕ → Option X) → ℕ → Option (ℕ × X)
-firstBest beats at zero = None
-firstBest beats at (suc n) = better beats (firstBest beats at n) n (at n)
 
 -- the earliest due with its stop, ties to the lowest stop
 abbrev pub earliest : Computation (List ℕ) → (ℕ → Row) → Option (ℕ × ℕ)
 earliest c rows = firstBest (λ d e. ltb d e) (λ s. c .due (rows s .state)) stops
-
-abbrev pub oldest : List Production → Option Production
-oldest [] = None
-oldest (p ∷ ps) = Some p
 
 -- of each stop's oldest pending production, the one with the greatest amount, ties to the lowest stop
 abbrev pub greatest : (ℕ → Row) → Option (ℕ × Production)

@@ -1,6 +1,7 @@
 -- The number of each answer and of each fault. Assumes nothing.
 use Prim.Native.Nat.{ℕ}
 use mathlib.Core.Bool.{Bool, true, false}
+use lib.Dec.{eqb}
 use Rattle.model.specs.declared.answer.Answer.{Answer}
 use Rattle.model.specs.declared.answer.Answer.the-variants.{Done, OutOfRange, Off, Late, Seen, Early, Over, Full, NoRoom, Cut, Nothing, LinkFull, NoMessage, NotOldest}
 use Rattle.model.specs.declared.answer.Outcome.{Outcome}
@@ -40,6 +41,15 @@ refusal Nothing = true
 refusal LinkFull = true
 refusal NoMessage = true
 refusal NotOldest = true
+
+abbrev pub isDone : Answer → Bool
+isDone a = eqb (answerNumber a) 0
+
+abbrev pub isSeen : Answer → Bool
+isSeen a = eqb (answerNumber a) 4
+
+abbrev pub isCut : Answer → Bool
+isCut a = eqb (answerNumber a) 9
 
 -- a show that is done carries the production shown
 abbrev pub outcomeAnswer : Outcome → Answer

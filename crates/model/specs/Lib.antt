@@ -7,3 +7,6 @@ pub mod Row
 pub mod Admission
 pub mod Junk
 pub mod Store
+pub mod Bytes
+pub mod FirstBest
+pub mod Names

@@ -13,9 +13,10 @@ use Rattle.model.specs.declared.answer.Answer.{Answer}
 use Rattle.model.specs.declared.answer.Answer.the-variants.{Done, Seen, Full}
 use Rattle.model.specs.declared.record.Name.{Name}
 use Rattle.names.specs.declared.taken.Taken.{Taken}
-use Rattle.names.specs.Held.{Meaning, sameName, sameTaken, mostTaken}
+use Rattle.model.specs.Names.{sameName}
+use Rattle.names.specs.Held.{Meaning, sameTaken, mostTaken}
 use Rattle.names.specs.Changes.{addAnswer, afterAdd, with-name, grown, Added}
-use Rattle.names.specs.Rows.{named}
+use Rattle.model.specs.Names.{named}
 use Rattle.names.specs.Fill.{with-names, AddedAll}
 use Rattle.names.proofs.Listing.{taken, same-is}
 

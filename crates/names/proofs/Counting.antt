@@ -12,9 +12,11 @@ use Rattle.std.proofs.shelf.Tests.{or-cases, or-left, or-right, or-from, cases-
 use Rattle.model.specs.declared.answer.Answer.the-variants.{Done, Seen, Full}
 use Rattle.model.specs.declared.record.Name.{Name}
 use Rattle.names.specs.declared.taken.Taken.{Taken}
-use Rattle.names.specs.Held.{Meaning, Counted, Apart, sameName, sameTaken, listed, mostTaken}
+use Rattle.model.specs.Names.{sameName}
+use Rattle.names.specs.Held.{Meaning, Counted, Apart, sameTaken, listed, mostTaken}
 use Rattle.names.specs.Changes.{addAnswer, with-name, grown}
-use Rattle.names.specs.Rows.{named, InRows, Covered, Room, Sized}
+use Rattle.model.specs.Names.{named}
+use Rattle.names.specs.Rows.{InRows, Covered, Room, Sized}
 use Rattle.names.proofs.Listing.{taken, same-is, is-same, listed-append}
 
 -- the list without the first place at which p stands

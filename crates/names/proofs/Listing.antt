@@ -10,7 +10,8 @@ use lib.ListN.{length, getD}
 use Rattle.std.proofs.shelf.Tests.{and-parts, and-from, and-left, and-right, or-cases, or-left, or-right, eqb-true, eq-eqb, cases-bool, both-ways}
 use Rattle.model.specs.declared.record.Name.{Name}
 use Rattle.names.specs.declared.taken.Taken.{Taken}
-use Rattle.names.specs.Held.{sameName, sameTaken, listed}
+use Rattle.model.specs.Names.{sameName}
+use Rattle.names.specs.Held.{sameTaken, listed}
 
 -- a name taken at a stop
 abbrev pub taken : ℕ → Name → Taken

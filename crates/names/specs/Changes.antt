@@ -7,7 +7,8 @@ use Rattle.model.specs.declared.answer.Answer.{Answer}
 use Rattle.model.specs.declared.answer.Answer.the-variants.{Done, Seen, Full}
 use Rattle.model.specs.declared.record.Name.{Name}
 use Rattle.names.specs.declared.taken.Taken.{Taken}
-use Rattle.names.specs.Held.{Meaning, mostTaken, sameName}
+use Rattle.model.specs.Names.{sameName}
+use Rattle.names.specs.Held.{Meaning, mostTaken}
 
 -- seen if it is held, full if so many others are
 abbrev pub addAnswer : Meaning → ℕ → Name → Answer

@@ -9,7 +9,7 @@ use Rattle.model.specs.declared.answer.Answer.{Answer}
 use Rattle.model.specs.declared.answer.Answer.the-variants.{Done}
 use Rattle.model.specs.declared.record.Name.{Name}
 use Rattle.names.specs.Held.{Meaning, mostTaken}
-use Rattle.names.specs.Rows.{named}
+use Rattle.model.specs.Names.{named}
 
 -- the names of the list are held too, at the stop
 abbrev pub with-names : (ℕ → Name → Bool) → ℕ → List Name → ℕ → Name → Bool

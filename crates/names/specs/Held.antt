@@ -5,16 +5,13 @@ use mathlib.Core.Bool.{Bool, false, _&&_, _||_}
 use mathlib.Core.List.{List, [], _∷_}
 use lib.Dec.{eqb}
 use lib.ListN.{length}
+use Rattle.model.specs.Names.{sameName}
 use Rattle.model.specs.declared.record.Name.{Name}
 use Rattle.names.specs.declared.taken.Taken.{Taken}
 
 -- the most names that a set holds
 abbrev pub mostTaken : ℕ
 mostTaken = 1280
-
--- equal names have the same sender, the same serial and the same time
-abbrev pub sameName : Name → Name → Bool
-sameName a b = eqb (a .serial) (b .serial) && (eqb (a .time) (b .time) && eqb (a .sender) (b .sender))
 
 -- this is the name, taken at the stop
 abbrev pub sameTaken : Taken → ℕ → Name → Bool

@@ -4,17 +4,14 @@ use mathlib.Core.Path.{_≡_}
 use mathlib.Core.Bool.{Bool, true, false, _||_}
 use mathlib.Core.List.{List, [], _∷_}
 use lib.ListN.{length}
+use Rattle.model.specs.Names.{named}
 use Rattle.model.specs.Limits.{stops, mostNames}
 use Rattle.model.specs.declared.answer.Answer.the-variants.{Done}
 use Rattle.model.specs.declared.record.Name.{Name}
-use Rattle.names.specs.Held.{Meaning, Counted, sameName, listed}
+use Rattle.model.specs.Names.{sameName}
+use Rattle.names.specs.Held.{Meaning, Counted, listed}
 use Rattle.names.specs.declared.taken.Taken.{Taken}
 use Rattle.names.specs.Changes.{addAnswer, with-name}
-
--- the name is in the list
-abbrev pub named : List Name → Name → Bool
-named [] n = false
-named (k ∷ ks) n = sameName k n || named ks n
 
 -- every name held stands in the row of its stop, and no row has more names than fit into it
 pub record InRows (h : ℕ → Name → Bool) (rows : ℕ → List Name) : Type 0 where

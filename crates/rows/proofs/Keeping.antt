@@ -12,7 +12,7 @@ use Rattle.std.proofs.shelf.Elements.{kept-by-more}
 use Rattle.std.proofs.shelf.Filters.{length-kept-by-both}
 use Rattle.std.proofs.shelf.Lists.{append-nil, length-take-le, length-push}
 use Rattle.model.specs.declared.record.Name.{Name}
-use Rattle.rows.specs.Edits.{kept}
+use Rattle.model.specs.Names.{kept}
 
 pub kept-few : (floor : ℕ) (xs : List Name) → length (kept floor xs) ≤ length xs
 kept-few floor xs = omega (arith, length-kept-by-both (λ n. leb floor (n .time)) (λ n. not (leb floor (n .time))) (λ n. refl) xs)

@@ -7,16 +7,16 @@ use native.Mathlib.Omega.{arith}
 use lib.ListN.{length, take, drop, getD, replicate}
 use Rattle.std.specs.shelf.Lists.{joined}
 use Rattle.std.proofs.shelf.Lists.{append-assoc, drop-at, drop-drop, getD-drop, getD-append-left, length-replicate}
-use Rattle.rows.specs.Bytes.{bytes2, bytes4, number2, number4}
+use Rattle.model.specs.Bytes.{u16Bytes, u32Bytes, u16At, u32At}
 
-pub number-of-bytes2 : (x : ℕ) → x < 2 ^ 16 → x % 256 + x / 256 % 256 * 256 ≡ x
-number-of-bytes2 x h = omega arith
+pub number-of-u16Bytes : (x : ℕ) → x < 2 ^ 16 → x % 256 + x / 256 % 256 * 256 ≡ x
+number-of-u16Bytes x h = omega arith
 
 digits4 : (x a b c p q r : ℕ) → p + a * 256 ≡ x → q + b * 256 ≡ a → r + c * 256 ≡ b → p + q * 256 + r * 65536 + c * 16777216 ≡ x
 digits4 x a b c p q r e f g = omega arith
 
-pub number-of-bytes4 : (x : ℕ) → x < 2 ^ 32 → x % 256 + x / 256 % 256 * 256 + x / 65536 % 256 * 65536 + x / 16777216 % 256 * 16777216 ≡ x
-number-of-bytes4 x h =
+pub number-of-u32Bytes : (x : ℕ) → x < 2 ^ 32 → x % 256 + x / 256 % 256 * 256 + x / 65536 % 256 * 65536 + x / 16777216 % 256 * 16777216 ≡ x
+number-of-u32Bytes x h =
     let lt : x / 16777216 < 256 = omega arith in
     let small : x / 16777216 % 256 ≡ x / 16777216 = mod-eq-of-lt lt in
     ap (λ c. x % 256 + x / 256 % 256 * 256 + x / 65536 % 256 * 65536 + c * 16777216) small
@@ -32,15 +32,15 @@ module _ (bs : List ℕ) (at : ℕ) where
   here : getD bs at 0 ≡ getD (drop at bs) 0 0
   here = ap (λ n. getD bs n 0) (sym (add-zero at)) ∙ at-drop bs at 0
 
-  pub number2-from : (x : ℕ) (t : List ℕ) → x < 2 ^ 16 → drop at bs ≡ bytes2 x ++ t → number2 bs at ≡ x
-  number2-from x t h e =
-      (λ k. (here ∙ ap (λ l. getD l 0 0) e) k + (at-drop bs at 1 ∙ ap (λ l. getD l 1 0) e) k * 256) ∙ number-of-bytes2 x h
+  pub u16At-from : (x : ℕ) (t : List ℕ) → x < 2 ^ 16 → drop at bs ≡ u16Bytes x ++ t → u16At bs at ≡ x
+  u16At-from x t h e =
+      (λ k. (here ∙ ap (λ l. getD l 0 0) e) k + (at-drop bs at 1 ∙ ap (λ l. getD l 1 0) e) k * 256) ∙ number-of-u16Bytes x h
 
-  pub number4-from : (x : ℕ) (t : List ℕ) → x < 2 ^ 32 → drop at bs ≡ bytes4 x ++ t → number4 bs at ≡ x
-  number4-from x t h e =
+  pub u32At-from : (x : ℕ) (t : List ℕ) → x < 2 ^ 32 → drop at bs ≡ u32Bytes x ++ t → u32At bs at ≡ x
+  u32At-from x t h e =
       (λ k. (here ∙ ap (λ l. getD l 0 0) e) k + (at-drop bs at 1 ∙ ap (λ l. getD l 1 0) e) k * 256
       + (at-drop bs at 2 ∙ ap (λ l. getD l 2 0) e) k * 65536 + (at-drop bs at 3 ∙ ap (λ l. getD l 3 0) e) k * 16777216)
-      ∙ number-of-bytes4 x h
+      ∙ number-of-u32Bytes x h
 
 -- what stands further on
 pub further : (bs ts : List ℕ) (at k : ℕ) → drop at bs ≡ ts → drop (at + k) bs ≡ drop k ts
@@ -58,8 +58,8 @@ entry-from f s sized (x ∷ xs) (suc i) d t h =
     ∙ entry-from f s sized xs i d t (omega arith)
 
 -- the upper two bytes of a number below 65,536
-pub number2-high : (bs : List ℕ) (at x : ℕ) (t : List ℕ) → x < 2 ^ 16 → drop at bs ≡ (x / 65536 % 256) ∷ (x / 16777216 % 256) ∷ t → number2 bs at ≡ 0
-number2-high bs at x t h e =
+pub u16At-high : (bs : List ℕ) (at x : ℕ) (t : List ℕ) → x < 2 ^ 16 → drop at bs ≡ (x / 65536 % 256) ∷ (x / 16777216 % 256) ∷ t → u16At bs at ≡ 0
+u16At-high bs at x t h e =
     let a : x / 65536 % 256 ≡ 0 = omega arith in
     let b : x / 16777216 % 256 ≡ 0 = omega arith in
     (λ k. (here bs at ∙ ap (λ l. getD l 0 0) e ∙ a) k + (at-drop bs at 1 ∙ ap (λ l. getD l 1 0) e ∙ b) k * 256)

@@ -13,12 +13,12 @@ use Rattle.model.specs.Limits.{mostPending, mostNames, pageBytes}
 use Rattle.model.specs.Row.{Row}
 use Rattle.model.specs.declared.record.Name.{Name}
 use Rattle.model.specs.declared.record.Production.{Production}
-use Rattle.rows.specs.Bytes.{bytes2, bytes4, number2, number4}
+use Rattle.model.specs.Bytes.{u16Bytes, u32Bytes, u16At, u32At}
 use Rattle.rows.specs.Layout.{encoded, padded, pendingBytes, nameBytes, pendingSize, nameSize, stateAt, pendingAt, namesAt, restAt, RowFits, PendingFits, NameFits}
 use Rattle.rows.specs.Reading.{rowIn, pendingIn, namesIn, productionIn, nameIn, LaidOut}
 use Rattle.rows.proofs.EntryLoops.{length-joined}
 use Rattle.rows.proofs.Encoding.{length-padded, padded-full, over-zeros}
-use Rattle.rows.proofs.Places.{number2-from, number4-from, number2-high, further, behind, entry-from, zeros-first, zeros-only}
+use Rattle.rows.proofs.Places.{u16At-from, u32At-from, u16At-high, further, behind, entry-from, zeros-first, zeros-only}
 
 -- the parts of a row behind its state
 pendingPart : Row → List ℕ
@@ -89,9 +89,9 @@ module _ (r : Row) (fits : RowFits r) where
       let f = fits .pending i d h in
       let e = pending-entry i d h in
       let at = pendingAt + pendingSize * i in
-      let s = number4-from (encoded r) at (p .serial) _ (f .serial) (e .1) in
-      let t = number4-from (encoded r) (at + 4) (p .time) _ (f .time) (further (encoded r) _ at 4 (e .1)) in
-      let a = number2-from (encoded r) (at + 8) (p .amount) _ (f .amount) (further (encoded r) _ at 8 (e .1)) in
+      let s = u32At-from (encoded r) at (p .serial) _ (f .serial) (e .1) in
+      let t = u32At-from (encoded r) (at + 4) (p .time) _ (f .time) (further (encoded r) _ at 4 (e .1)) in
+      let a = u16At-from (encoded r) (at + 8) (p .amount) _ (f .amount) (further (encoded r) _ at 8 (e .1)) in
       λ k. record { serial = s k; time = t k; amount = a k }
 
   name-there : (i : ℕ) (d : Name) → i < length (r .names) → nameIn (encoded r) (namesAt + nameSize * i) ≡ getD (r .names) i d
@@ -100,23 +100,23 @@ module _ (r : Row) (fits : RowFits r) where
       let f = fits .names i d h in
       let e = name-entry i d h in
       let at = namesAt + nameSize * i in
-      let b = number2-from (encoded r) at (n .sender) _ (f .sender) (e .1) in
-      let s = number4-from (encoded r) (at + 2) (n .serial) _ (f .serial) (further (encoded r) _ at 2 (e .1)) in
-      let t = number4-from (encoded r) (at + 6) (n .time) _ (f .time) (further (encoded r) _ at 6 (e .1)) in
+      let b = u16At-from (encoded r) at (n .sender) _ (f .sender) (e .1) in
+      let s = u32At-from (encoded r) (at + 2) (n .serial) _ (f .serial) (further (encoded r) _ at 2 (e .1)) in
+      let t = u32At-from (encoded r) (at + 6) (n .time) _ (f .time) (further (encoded r) _ at 6 (e .1)) in
       λ k. record { sender = b k; serial = s k; time = t k }
 
-  amount-short : (i : ℕ) → i < length (r .pending) → number2 (encoded r) (pendingAt + pendingSize * i + 10) ≡ 0
+  amount-short : (i : ℕ) → i < length (r .pending) → u16At (encoded r) (pendingAt + pendingSize * i + 10) ≡ 0
   amount-short i h =
       let d : Production = record { serial = 0; time = 0; amount = 0 } in
       let e = pending-entry i d h in
       let at = pendingAt + pendingSize * i in
       let a = getD (r .pending) i d .amount in
       let f = fits .pending i d h .amount in
-      number2-high (encoded r) (at + 10) a (e .0) f (further (encoded r) _ at 10 (e .1))
+      u16At-high (encoded r) (at + 10) a (e .0) f (further (encoded r) _ at 10 (e .1))
 
-  next-there : number4 (encoded r) 0 ≡ r .next
+  next-there : u32At (encoded r) 0 ≡ r .next
   unfolding encoded
-  next-there = number4-from (encoded r) 0 (r .next) _ (fits .next) refl
+  next-there = u32At-from (encoded r) 0 (r .next) _ (fits .next) refl
 
   pending-count-there : getD (encoded r) 4 0 ≡ length (r .pending)
   unfolding encoded
@@ -207,7 +207,7 @@ encoded-once r s f g e = sym (row-back r f) ∙ ap rowIn e ∙ row-back s g
 
 -- the four parts that are written, over zeros, are the row's bytes
 pub encoded-by : (r : Row) (n : ℕ) (z h a b c d : List ℕ) → n ≡ pageBytes → length (r .state) ≡ 32 → length (r .pending) ≤ mostPending →
-    length (r .names) ≤ mostNames → z ≡ replicate n 0 → h ≡ bytes4 (r .next) ++ length (r .pending) ∷ length (r .names) ∷ 0 ∷ 0 ∷ [] →
+    length (r .names) ≤ mostNames → z ≡ replicate n 0 → h ≡ u32Bytes (r .next) ++ length (r .pending) ∷ length (r .names) ∷ 0 ∷ 0 ∷ [] →
     a ≡ paste z 0 h (length h) → b ≡ paste a stateAt (r .state) (length (r .state)) →
     c ≡ paste b pendingAt (joined pendingBytes (r .pending)) (pendingSize * length (r .pending)) →
     d ≡ paste c namesAt (joined nameBytes (r .names)) (nameSize * length (r .names)) → d ≡ encoded r

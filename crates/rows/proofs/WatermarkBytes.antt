@@ -6,12 +6,12 @@ use native.Mathlib.Omega.{arith}
 use lib.ListN.{length, replicate}
 use lib.Seq.{paste}
 use Rattle.model.specs.Limits.{pageBytes}
-use Rattle.rows.specs.Bytes.{bytes4, number4}
+use Rattle.model.specs.Bytes.{u32Bytes, u32At}
 use Rattle.rows.specs.Layout.{encodedWatermark, padded}
 use Rattle.rows.proofs.Encoding.{over-zeros, padded-full}
-use Rattle.rows.proofs.Places.{number4-from}
+use Rattle.rows.proofs.Places.{u32At-from}
 
-pub watermark-by : (w n : ℕ) (z h a : List ℕ) → n ≡ pageBytes → z ≡ replicate n 0 → h ≡ bytes4 w → a ≡ paste z 0 h (length h) → a ≡ encodedWatermark w
+pub watermark-by : (w n : ℕ) (z h a : List ℕ) → n ≡ pageBytes → z ≡ replicate n 0 → h ≡ u32Bytes w → a ≡ paste z 0 h (length h) → a ≡ encodedWatermark w
 unfolding encodedWatermark
 watermark-by w n z h a page ez eh ea =
     let hl : length h ≡ 4 = ap length eh in
@@ -19,6 +19,6 @@ watermark-by w n z h a page ez eh ea =
     ea ∙ ap (λ q. paste q 0 h (length h)) ez ∙ over-zeros [] h n 0 (length h) 4 refl refl (omega arith) (omega arith)
     ∙ ap (λ q. q ++ replicate (n - 4) 0) (padded-full 4 h hl) ∙ (λ k. eh k ++ replicate (last k) 0)
 
-pub watermark-back : (w : ℕ) → w < 2 ^ 32 → number4 (encodedWatermark w) 0 ≡ w
+pub watermark-back : (w : ℕ) → w < 2 ^ 32 → u32At (encodedWatermark w) 0 ≡ w
 unfolding encodedWatermark
-watermark-back w h = number4-from (encodedWatermark w) 0 w (replicate (pageBytes - 4) 0) h refl
+watermark-back w h = u32At-from (encodedWatermark w) 0 w (replicate (pageBytes - 4) 0) h refl

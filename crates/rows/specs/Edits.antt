@@ -9,26 +9,16 @@ use Rattle.std.specs.declared.option.Option.{Option}
 use Rattle.std.specs.declared.option.Option.the-variants.{Some, None}
 use Rattle.model.specs.Answers.{answerNumber}
 use Rattle.model.specs.Limits.{mostPending, mostNames, lastSerial}
+use Rattle.model.specs.Names.{kept}
 use Rattle.model.specs.Row.{Row}
 use Rattle.model.specs.declared.answer.Answer.{Answer}
 use Rattle.model.specs.declared.answer.Answer.the-variants.{Done, Over, NoRoom}
 use Rattle.model.specs.declared.record.Name.{Name}
 use Rattle.model.specs.declared.record.Production.{Production}
 
--- the names whose times are not below a floor, in the order of taking
-abbrev pub kept : ℕ → List Name → List Name
-kept floor names = kept-by (λ n. leb floor (n .time)) names
-
 -- how many names of a row stay for a floor
 abbrev pub staying : ℕ → Row → ℕ
 staying floor r = length (kept floor (r .names))
-
--- a stop with four pending productions, or with no serial left, can produce nothing more
-abbrev pub roomForOne : Row → Answer
-roomForOne r = cond (leb mostPending (length (r .pending))) NoRoom (cond (leb lastSerial (r .next)) Over Done)
-
-abbrev pub isDone : Answer → Bool
-isDone a = eqb (answerNumber a) 0
 
 -- one more production under the next serial, which is counted up
 abbrev pub produced : ℕ → ℕ → Row → Row
@@ -38,10 +28,6 @@ produced time amount r = record {
   pending = r .pending ++ record { serial = r .next; time = time; amount = amount } ∷ [];
   names = r .names;
 }
-
--- the oldest pending production dropped
-abbrev pub cleared : Row → Row
-cleared r = record { next = r .next; state = r .state; pending = drop 1 (r .pending); names = r .names }
 
 -- the names below a floor dropped
 abbrev pub forgetting : ℕ → Row → Row
@@ -54,7 +40,3 @@ remembering floor n r = record { next = r .next; state = r .state; pending = r .
 -- another state
 abbrev pub withState : List ℕ → Row → Row
 withState state r = record { next = r .next; state = state; pending = r .pending; names = r .names }
-
-abbrev pub oldest : List Production → Option Production
-oldest [] = None
-oldest (p ∷ ps) = Some p

@@ -9,7 +9,7 @@ use Rattle.model.specs.Limits.{mostPending, mostNames, pageBytes}
 use Rattle.model.specs.Row.{Row}
 use Rattle.model.specs.declared.record.Name.{Name}
 use Rattle.model.specs.declared.record.Production.{Production}
-use Rattle.rows.specs.Bytes.{bytes2, bytes4}
+use Rattle.model.specs.Bytes.{u16Bytes, u32Bytes}
 
 -- the bytes of a pending production, and of a name
 abbrev pub pendingSize : ℕ
@@ -33,11 +33,11 @@ restAt = namesAt + mostNames * nameSize
 
 -- serial, time, amount
 abbrev pub pendingBytes : Production → List ℕ
-pendingBytes p = bytes4 (p .serial) ++ (bytes4 (p .time) ++ bytes4 (p .amount))
+pendingBytes p = u32Bytes (p .serial) ++ (u32Bytes (p .time) ++ u32Bytes (p .amount))
 
 -- sender, serial, time
 abbrev pub nameBytes : Name → List ℕ
-nameBytes n = bytes2 (n .sender) ++ (bytes4 (n .serial) ++ bytes4 (n .time))
+nameBytes n = u16Bytes (n .sender) ++ (u32Bytes (n .serial) ++ u32Bytes (n .time))
 
 -- bytes, and zeros up to a size
 unfoldable pub padded : ℕ → List ℕ → List ℕ
@@ -46,11 +46,11 @@ padded size bs = bs ++ replicate (size - length bs) 0
 -- next serial, the two numbers of entries, two zeros, the state, the pending productions, the names, zeros
 unfoldable pub encoded : Row → List ℕ
 encoded r =
-    bytes4 (r .next) ++ ((length (r .pending) ∷ length (r .names) ∷ 0 ∷ 0 ∷ []) ++ (r .state ++ (padded (mostPending * pendingSize) (joined pendingBytes (r .pending)) ++ (padded (mostNames * nameSize) (joined nameBytes (r .names)) ++ replicate (pageBytes - restAt) 0))))
+    u32Bytes (r .next) ++ ((length (r .pending) ∷ length (r .names) ∷ 0 ∷ 0 ∷ []) ++ (r .state ++ (padded (mostPending * pendingSize) (joined pendingBytes (r .pending)) ++ (padded (mostNames * nameSize) (joined nameBytes (r .names)) ++ replicate (pageBytes - restAt) 0))))
 
 -- the row of the watermark: the watermark, zeros
 unfoldable pub encodedWatermark : ℕ → List ℕ
-encodedWatermark w = bytes4 w ++ replicate (pageBytes - 4) 0
+encodedWatermark w = u32Bytes w ++ replicate (pageBytes - 4) 0
 
 -- what a row's fields can hold
 pub record PendingFits (p : Production) : Type 0 where

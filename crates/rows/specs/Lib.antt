@@ -1,4 +1,3 @@
-pub mod Bytes
 pub mod Layout
 pub mod Reading
 pub mod Meaning

@@ -15,7 +15,9 @@ use Rattle.model.specs.Row.{Row}
 use Rattle.model.specs.declared.answer.Answer.{Answer}
 use Rattle.model.specs.declared.answer.Answer.the-variants.{Done}
 use Rattle.model.specs.declared.record.Record.{Record}
-use Rattle.law.specs.Rows.{isDone, kept, floorOf, takeOf, admitted, considered, roomFor, roomToTake}
+use Rattle.model.specs.Answers.{isDone}
+use Rattle.model.specs.Names.{kept}
+use Rattle.law.specs.Rows.{floorOf, takeOf, admitted, considered, roomFor, roomToTake}
 use Rattle.steps.specs.Steps.{Refused}
 
 -- room goes by what is pending and by the next serial

@@ -12,7 +12,8 @@ use Rattle.model.specs.Row.{Row}
 use Rattle.model.specs.declared.answer.Answer.{Answer}
 use Rattle.model.specs.declared.answer.Answer.the-variants.{Done}
 use Rattle.model.specs.declared.record.Record.{Record}
-use Rattle.law.specs.Rows.{considered, takenRow, firedRow, floorOf, roomForOne, nextAfter, produced}
+use Rattle.model.specs.Row.{roomForOne}
+use Rattle.law.specs.Rows.{considered, takenRow, firedRow, floorOf, nextAfter, produced}
 
 -- a record is taken; the floor is that of the stop after it
 pub record Took (c : Computation (List ℕ)) (on : Bool) (w : ℕ) (r : Record) (before after : Row) (floor : ℕ) : Type 0 where

@@ -1,7 +1,8 @@
 // What a step emits becomes the youngest pending production.
 ghost use mathlib.Core.Bool.{cond};
 ghost use mathlib.Core.Path.{_≡_};
-ghost use Rattle.law.specs.Rows.{roomFor, isDone};
+ghost use Rattle.model.specs.Answers.{isDone};
+ghost use Rattle.law.specs.Rows.{roomFor};
 ghost use Rattle.rows.specs.Meaning.{rowOf};
 ghost use Rattle.steps.specs.Steps.{emitting};
 use model::Answer;

@@ -7,7 +7,7 @@ ghost use Rattle.std.specs.Options.{isSome, mapped};
 ghost use Rattle.std.specs.Slices.{found};
 ghost use Rattle.std.specs.declared.option.Option.the-variants.{Some};
 ghost use Rattle.model.specs.Row.{Row};
-ghost use Rattle.rows.specs.Bytes.{bytes4};
+ghost use Rattle.model.specs.Bytes.{u32Bytes};
 ghost use Rattle.rows.specs.Edits.{staying};
 ghost use Rattle.rows.specs.Layout.{encoded, RowFits};
 ghost use Rattle.rows.specs.Meaning.{rowOf};
@@ -25,7 +25,7 @@ use crate::entries::put_pending;
 // What stands before the state: the next serial and how many entries there are.
 fn head(next: u32, pending: u8, names: u8) -> [u8; 8]
     ensures fits { λ _. ⌜ next < 2 ^ 32 ⌝ }
-    ensures bytes { λ r. ⌜ r ≡ bytes4 next ++ pending ∷ names ∷ 0 ∷ 0 ∷ [] ⌝ }
+    ensures bytes { λ r. ⌜ r ≡ u32Bytes next ++ pending ∷ names ∷ 0 ∷ 0 ∷ [] ⌝ }
 {
     let [n0, n1, n2, n3] = bytes4_of(next);
     [n0, n1, n2, n3, pending, names, 0, 0]

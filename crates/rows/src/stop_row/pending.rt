@@ -1,7 +1,9 @@
 // The pending productions of a stop's row.
 ghost use mathlib.Core.Bool.{cond};
 ghost use mathlib.Core.Path.{_≡_};
-ghost use Rattle.rows.specs.Edits.{roomForOne, isDone, produced, cleared, oldest as oldestOf};
+ghost use Rattle.model.specs.Row.{roomForOne, clearedRow as cleared, oldest as oldestOf};
+ghost use Rattle.model.specs.Answers.{isDone};
+ghost use Rattle.rows.specs.Edits.{produced};
 ghost use Rattle.rows.specs.Meaning.{rowOf};
 use super::StopRow;
 use crate::entries::NO_PRODUCTION;

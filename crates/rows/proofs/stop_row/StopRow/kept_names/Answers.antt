@@ -2,7 +2,7 @@ use mathlib.Core.Path.{sym, ap, _∙_}
 use Rattle.std.proofs.shelf.Lists.{take-all}
 use Rattle.model.specs.declared.record.Name.{Name}
 use Rattle.bounded.specs.Lists.{listed}
-use Rattle.rows.specs.Edits.{kept}
+use Rattle.model.specs.Names.{kept}
 use Rattle.rows.proofs.Keeping.{kept-no, push-yes}
 use Rattle.rows.proofs.stop_row.StopRow.kept_names.Needs as need
 use Rattle.rows.proofs.stop_row.StopRow.kept_names.Needs.{then-name-floor, else-name-floor}

@@ -1,7 +1,7 @@
 use mathlib.Core.Path.{_≡_}
 use lib.ListN.{take}
 use Rattle.bounded.specs.Lists.{listed}
-use Rattle.rows.specs.Edits.{kept}
+use Rattle.model.specs.Names.{kept}
 use Rattle.rows.proofs.stop_row.StopRow.kept_names.Given as given
 
 abbrev pub Inv-loop-name : given.InvT-loop-name

@@ -3,7 +3,7 @@ use native.Mathlib.Omega.{arith}
 use lib.ListN.{length}
 use Rattle.std.proofs.shelf.Lists.{take-all}
 use Rattle.model.specs.declared.record.Name.{Name}
-use Rattle.rows.specs.Edits.{kept}
+use Rattle.model.specs.Names.{kept}
 use Rattle.rows.proofs.Keeping.{kept-no, count-yes}
 use Rattle.rows.proofs.stop_row.StopRow.staying.Needs as need
 use Rattle.rows.proofs.stop_row.StopRow.staying.Needs.{then-floor-name, else-floor-name}

@@ -1,7 +1,7 @@
 use Prim.Native.Nat.{_≤_}
 use mathlib.Core.Path.{_≡_}
 use lib.ListN.{length, take}
-use Rattle.rows.specs.Edits.{kept}
+use Rattle.model.specs.Names.{kept}
 use Rattle.rows.proofs.stop_row.StopRow.staying.Given as given
 
 abbrev pub Inv-loop-name : given.InvT-loop-name

@@ -1,6 +1,6 @@
 use mathlib.Core.Path.{_≡_, refl, sym, ap, _∙_}
 use Rattle.model.specs.Limits.{pageBytes}
-use Rattle.rows.specs.Bytes.{number4}
+use Rattle.model.specs.Bytes.{u32At}
 use Rattle.rows.specs.Layout.{encodedWatermark}
 use Rattle.rows.proofs.WatermarkBytes.{watermark-by, watermark-back}
 use Rattle.rows.proofs.watermark_row.WatermarkRow.encode.Needs as need
@@ -14,5 +14,5 @@ returns c =
     record {
       bytes = bytes;
       fits = c .bytes4-of .ensures .fits;
-      once = λ other f e. sym (watermark-back other f) ∙ ap (λ l. number4 l 0) (e ∙ bytes) ∙ watermark-back w (c .bytes4-of .ensures .fits);
+      once = λ other f e. sym (watermark-back other f) ∙ ap (λ l. u32At l 0) (e ∙ bytes) ∙ watermark-back w (c .bytes4-of .ensures .fits);
     }
