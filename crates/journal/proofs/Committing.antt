@@ -15,9 +15,10 @@ use Rattle.model.specs.Store.{Stored}
 use Rattle.model.specs.declared.answer.Answer.{Answer}
 use Rattle.model.specs.declared.answer.Answer.the-variants.{Done, Cut}
 use Rattle.model.specs.declared.answer.CutPoint.{CutPoint}
-use Rattle.stores.specs.Cards.{Medium, cutAt, torn, landed, failed, writtenBoth, writeBothAnswer}
+use Rattle.stores.specs.Cards.{Medium, cutAt, landed, writtenBoth, writeBothAnswer}
 use Rattle.stores.specs.Rows.{rowsBy}
-use Rattle.stores.proofs.Writing.{torn-zero, cut-first, cut-second, done-both, answer-first, answer-second, answer-done}
+use Rattle.stores.proofs.Failing.{torn, tornAt, torn-zero}
+use Rattle.stores.proofs.Writing.{cut-first, cut-second, done-both, answer-first, answer-second, answer-done}
 use Rattle.journal.specs.Layout.{rowCount, pageCount, Sound, meaning, commitCutAt, cutPage, owedBy, owedAfterWrites, home, mark, markPage, rowIn}
 use Rattle.journal.proofs.Marking.{mark-is, marked, settled, rows-newer, rows-kept, sound-by}
 
@@ -166,14 +167,14 @@ module _ (m : Medium) (r : ℕ) (b : List ℕ) (s : Sound m) (l : r < rowCount) 
   in-zero-two : 0 < length (card-two .pages)
   in-zero-two = omega (arith, two-sized)
 
-  went-one : (a : Answer) → m .left ≡ 0 → a ≡ answers 0 → Went m (failed m 1 b) r b a
-  went-one a h e = cut-went (failed m 1 b) a 0 0 h refl e refl h refl (one-sized (torn m 1 b)) (one-first (torn m 1 b)) (omega arith) refl (one-rows (torn m 1 b))
+  went-one : (a : Answer) → m .left ≡ 0 → a ≡ answers 0 → Went m (tornAt m 1 b) r b a
+  went-one a h e = cut-went (tornAt m 1 b) a 0 0 h refl e refl h refl (one-sized (torn m 1 b)) (one-first (torn m 1 b)) (omega arith) refl (one-rows (torn m 1 b))
 
-  went-two : (a : Answer) → m .left ≡ 1 → a ≡ answers 1 → Went m (failed card-one 0 (markPage (r + 1))) r b a
+  went-two : (a : Answer) → m .left ≡ 1 → a ≡ answers 1 → Went m (tornAt card-one 0 (markPage (r + 1))) r b a
   went-two a h e = ⊎-elim new old (cases-bool (eqb (m .tear) 1))
     where
       n : Medium
-      n = failed card-one 0 (markPage (r + 1))
+      n = tornAt card-one 0 (markPage (r + 1))
 
       new : eqb (m .tear) 1 ≡ true → Went m n r b a
       new t =
@@ -187,15 +188,15 @@ module _ (m : Medium) (r : ℕ) (b : List ℕ) (s : Sound m) (l : r < rowCount) 
           cut-went n a 1 0 h refl e refl (omega arith) refl (ap length is ∙ one-sized b) (ap (λ (p : List (List ℕ)). getD p 0 []) is ∙ one-first b) (omega arith)
           (sym (cond-false _ _ _ t)) (ap (λ p. rowsBy (rowIn p) rowCount) is ∙ one-rows b ∙ sym (cond-false _ _ _ t))
 
-  went-three : (a : Answer) → m .left ≡ 2 → a ≡ answers 2 → Went m (failed card-two (home r) b) r b a
-  went-three a h e = cut-went (failed card-two (home r) b) a 2 (r + 1) h refl e refl (omega arith) refl (three-sized (torn card-two (home r) b))
+  went-three : (a : Answer) → m .left ≡ 2 → a ≡ answers 2 → Went m (tornAt card-two (home r) b) r b a
+  went-three a h e = cut-went (tornAt card-two (home r) b) a 2 (r + 1) h refl e refl (omega arith) refl (three-sized (torn card-two (home r) b))
       (three-first (torn card-two (home r) b)) (omega arith) (owed-marked r) (three-rows (torn card-two (home r) b))
 
-  went-four : (a : Answer) → m .left ≡ 3 → a ≡ answers 3 → Went m (failed card-three 0 (markPage 0)) r b a
+  went-four : (a : Answer) → m .left ≡ 3 → a ≡ answers 3 → Went m (tornAt card-three 0 (markPage 0)) r b a
   went-four a h e = ⊎-elim new old (cases-bool (eqb (m .tear) 1))
     where
       n : Medium
-      n = failed card-three 0 (markPage 0)
+      n = tornAt card-three 0 (markPage 0)
 
       new : eqb (m .tear) 1 ≡ true → Went m n r b a
       new t =
@@ -222,7 +223,7 @@ module _ (m : Medium) (r : ℕ) (b : List ℕ) (s : Sound m) (l : r < rowCount) 
         sound = sound-by (landed card-three 0 (markPage 0)) 0 four-sized four-first (omega arith) (λ x. refl);
       }
 
-  -- power failed at one of the first two writes
+  -- power tornAt at one of the first two writes
   pub went-begun : (n : Medium) (a : Answer) → n ≡ writtenBoth m 1 b 0 (markPage (r + 1)) → a ≡ writeBothAnswer m r 1 b 0 → (a ≡ Done → ⊥) → Went m n r b a
   went-begun n a is e not = ⊎-elim second (⊎-elim none (λ h. absurd (not (e ∙ answer-done m r 1 b 0 (markPage (r + 1)) in-one in-zero on h)))) (cases-order (m .left) 1)
     where

@@ -13,9 +13,10 @@ use Rattle.model.specs.Power.{Power, restartAnswer}
 use Rattle.model.specs.Store.{Stored}
 use Rattle.model.specs.declared.answer.Answer.{Answer}
 use Rattle.model.specs.declared.answer.Answer.the-variants.{Done, Cut}
-use Rattle.stores.specs.Cards.{Medium, cutAt, torn, landed, failed, turnedOn, writtenBoth, writeBothAnswer}
+use Rattle.stores.specs.Cards.{Medium, cutAt, landed, turnedOn, writtenBoth, writeBothAnswer}
 use Rattle.stores.specs.Rows.{rowsBy}
-use Rattle.stores.proofs.Writing.{torn-zero, cut-first, cut-second, done-both, answer-first, answer-second, answer-done}
+use Rattle.stores.proofs.Failing.{torn, tornAt, torn-zero}
+use Rattle.stores.proofs.Writing.{cut-first, cut-second, done-both, answer-first, answer-second, answer-done}
 use Rattle.journal.specs.Layout.{rowCount, pageCount, Sound, meaning, restartCutAt, owedBy, owedAfterMending, home, mark, markPage, rowIn, mended, mendAnswer}
 use Rattle.journal.proofs.Marking.{Holds, mark-is, marked, settled, rows-alike, sound-by}
 use Rattle.journal.proofs.Committing.{owed-marked}
@@ -139,15 +140,15 @@ module _ (m : Medium) (left tear : ℕ) (junk : List ℕ) (s : Sound m) (ne : ma
   off : false ≡ true → r + 1 ≡ 0
   off e = absurd (both-ways false refl e)
 
-  woke-none : (a : Answer) → left ≡ 0 → a ≡ answers 0 → Woke m (failed k (home r) b) left tear a
-  woke-none a h e = build (failed k (home r) b) a (r + 1) (e ∙ sym (ap answers h)) (sym (ap (leb 2) h)) (omega arith) refl (one-sized (torn k (home r) b))
+  woke-none : (a : Answer) → left ≡ 0 → a ≡ answers 0 → Woke m (tornAt k (home r) b) left tear a
+  woke-none a h e = build (tornAt k (home r) b) a (r + 1) (e ∙ sym (ap answers h)) (sym (ap (leb 2) h)) (omega arith) refl (one-sized (torn k (home r) b))
       (one-first (torn k (home r) b)) (omega (arith, row-in)) off (owed-marked r ∙ sym (ap (owedAfterMending 2 tear) h)) (one-holds (torn k (home r) b))
 
-  woke-one : (a : Answer) → left ≡ 1 → a ≡ answers 1 → Woke m (failed card-one 0 (markPage 0)) left tear a
+  woke-one : (a : Answer) → left ≡ 1 → a ≡ answers 1 → Woke m (tornAt card-one 0 (markPage 0)) left tear a
   woke-one a h e = ⊎-elim new old (cases-bool (eqb tear 1))
     where
       n : Medium
-      n = failed card-one 0 (markPage 0)
+      n = tornAt card-one 0 (markPage 0)
 
       new : eqb tear 1 ≡ true → Woke m n left tear a
       new t =

@@ -14,12 +14,13 @@ use Rattle.model.specs.Power.{Power, commitAnswer, renewed, spent}
 use Rattle.model.specs.Store.{Stored}
 use Rattle.model.specs.declared.answer.Answer.{Answer}
 use Rattle.model.specs.declared.answer.Answer.the-variants.{Done, Cut}
-use Rattle.stores.specs.Cards.{Medium, cutAt, torn, landed, failed, writtenBoth, writeBothAnswer}
+use Rattle.stores.specs.Cards.{Medium, cutAt, landed, writtenBoth, writeBothAnswer}
 use Rattle.stores.specs.Rows.{rowsBy}
 use Rattle.stores.specs.Promises.{Commits}
 use Rattle.stores.proofs.Judging.{commits-on, row-fits}
 use Rattle.stores.proofs.Rows.{same-stored, length-rows}
-use Rattle.stores.proofs.Writing.{torn-zero, cut-first, cut-second, done-both, answer-first, answer-second, answer-done}
+use Rattle.stores.proofs.Failing.{torn, tornAt, torn-zero}
+use Rattle.stores.proofs.Writing.{cut-first, cut-second, done-both, answer-first, answer-second, answer-done}
 use Rattle.shadow.specs.Layout.{rowCount, pageCount, Sound, meaning, commitCutAt, flag, slot, otherPage, switched, rowIn}
 use Rattle.shadow.proofs.Switching.{slot-written, page-switched, slot-sound, switch-sound}
 
@@ -73,7 +74,7 @@ module _ (m : Medium) (r : ℕ) (bytes : List ℕ) (s : Sound m) (l : r < rowCou
   switched-same = ap (λ (p : List ℕ). set p r (1 - getD p r 0)) first-same
 
   module _ (h : m .left ≡ 1) where
-    cut : after m r bytes ≡ failed middle 0 (switched (m .pages) r)
+    cut : after m r bytes ≡ tornAt middle 0 (switched (m .pages) r)
     cut = cut-second m r (otherPage (m .pages) r) bytes 0 (switched (m .pages) r) in-card zero-in-card on h
 
     short : leb 2 (m .left) ≡ false

@@ -2,9 +2,9 @@
 use Prim.Native.Nat.{ℕ, _<_, _≤_}
 use mathlib.Core.Path.{_≡_, refl, ap, _∙_}
 use mathlib.Core.Bool.{Bool, true, false, cond, _&&_}
-use mathlib.Core.List.{List, []}
-use lib.ListN.{length, getD}
-use lib.Dec.{ltb, eqb}
+use mathlib.Core.List.{List}
+use lib.ListN.{length}
+use lib.Dec.{ltb}
 use mathlib.Core.Logic.{⊎-elim}
 use native.Mathlib.Omega.{arith}
 use Rattle.std.proofs.shelf.Lists.{length-set}
@@ -13,7 +13,8 @@ use Rattle.model.specs.Store.{judged}
 use Rattle.model.specs.declared.answer.Answer.{Answer}
 use Rattle.model.specs.declared.answer.Answer.the-variants.{Done, Off, OutOfRange, Cut}
 use Rattle.model.specs.declared.answer.CutPoint.{CutPoint}
-use Rattle.stores.specs.Cards.{Medium, cutAt, torn, landed, failed, written, writeAnswer, lasts, writtenBoth, writeBothAnswer}
+use Rattle.stores.proofs.Failing.{tornAt, failed-is}
+use Rattle.stores.specs.Cards.{Medium, cutAt, landed, written, writeAnswer, lasts, writtenBoth, writeBothAnswer}
 
 judged-done : (a b c : Bool) (p : CutPoint) → judged a b (cond c Done (Cut p)) ≡ Done → (a && (b && c)) ≡ true
 judged-done true true true p e = refl
@@ -39,9 +40,9 @@ pub written-landed : (m : Medium) (page : ℕ) (bytes : List ℕ) → page < len
 written-landed m page bytes l on h =
     cond-true _ _ _ (and-from _ _ (lt-ltb page (length (m .pages)) l) on) ∙ cond-true _ _ _ (lt-ltb 0 (m .left) h)
 
-pub written-failed : (m : Medium) (page : ℕ) (bytes : List ℕ) → page < length (m .pages) → m .on ≡ true → m .left ≡ 0 → written m page bytes ≡ failed m page bytes
-written-failed m page bytes l on h =
-    cond-true _ _ _ (and-from _ _ (lt-ltb page (length (m .pages)) l) on) ∙ cond-false _ _ _ (le-ltb 0 (m .left) (omega arith))
+pub written-torn : (m : Medium) (page : ℕ) (bytes : List ℕ) → page < length (m .pages) → m .on ≡ true → m .left ≡ 0 → written m page bytes ≡ tornAt m page bytes
+written-torn m page bytes l on h =
+    cond-true _ _ _ (and-from _ _ (lt-ltb page (length (m .pages)) l) on) ∙ cond-false _ _ _ (le-ltb 0 (m .left) (omega arith)) ∙ failed-is m page bytes
 
 pub write-done : (m : Medium) (row page : ℕ) → page < length (m .pages) → m .on ≡ true → 0 < m .left → writeAnswer m row page ≡ Done
 write-done m row page l on h =
@@ -62,16 +63,16 @@ module _ (m : Medium) (row first : ℕ) (bytes : List ℕ) (second : ℕ) (more 
   within : second < length (landed m first bytes .pages)
   within = omega (arith, length-set (m .pages) first bytes)
 
-  pub cut-first : m .left ≡ 0 → writtenBoth m first bytes second more ≡ failed m first bytes
-  cut-first h = cond-false _ _ _ (ending h) ∙ written-failed m first bytes l on h
+  pub cut-first : m .left ≡ 0 → writtenBoth m first bytes second more ≡ tornAt m first bytes
+  cut-first h = cond-false _ _ _ (ending h) ∙ written-torn m first bytes l on h
 
   pub answer-first : m .left ≡ 0 → writeBothAnswer m row first bytes second ≡ Cut (cutAt m row first)
   answer-first h = cond-false _ _ _ (ending h) ∙ write-cut m row first l on h
 
-  pub cut-second : m .left ≡ 1 → writtenBoth m first bytes second more ≡ failed (landed m first bytes) second more
+  pub cut-second : m .left ≡ 1 → writtenBoth m first bytes second more ≡ tornAt (landed m first bytes) second more
   cut-second h =
       cond-true _ _ _ (lasting (omega arith)) ∙ ap (λ x. written x second more) (written-landed m first bytes l on (omega arith))
-      ∙ written-failed (landed m first bytes) second more within on (omega arith)
+      ∙ written-torn (landed m first bytes) second more within on (omega arith)
 
   pub answer-second : m .left ≡ 1 → writeBothAnswer m row first bytes second ≡ Cut (cutAt m row second)
   answer-second h =
@@ -87,7 +88,3 @@ module _ (m : Medium) (row first : ℕ) (bytes : List ℕ) (second : ℕ) (more 
   answer-done h =
       cond-true _ _ _ (lasting (omega arith)) ∙ ap (λ x. writeAnswer x row second) (written-landed m first bytes l on (omega arith))
       ∙ write-done (landed m first bytes) row second within on (omega arith)
-
--- page 0 is never junk
-pub torn-zero : (m : Medium) (bytes : List ℕ) → torn m 0 bytes ≡ cond (eqb (m .tear) 1) bytes (getD (m .pages) 0 [])
-torn-zero m bytes = ap (cond (eqb (m .tear) 1) bytes) (cond-false _ _ _ (and-right (eqb (m .tear) 2) false refl))

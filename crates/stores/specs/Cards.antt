@@ -1,8 +1,8 @@
 -- What a card holds, and what a write leaves on it, done or cut. Assumes nothing.
 use Prim.Native.Nat.{ℕ, _-_}
 use mathlib.Core.Bool.{Bool, true, false, cond, not, _&&_}
-use mathlib.Core.List.{List, []}
-use lib.ListN.{length, getD, set, replicate}
+use mathlib.Core.List.{List}
+use lib.ListN.{length, set, replicate}
 use lib.Dec.{ltb, eqb}
 use Rattle.std.specs.Of.Vec.{vec-items}
 use Rattle.model.specs.Limits.{pageBytes}
@@ -40,14 +40,10 @@ blankMedium node count = offMedium node (replicate count zeroPage)
 abbrev pub turnedOn : Medium → ℕ → ℕ → List ℕ → Medium
 turnedOn m left tear junk = record { pages = m .pages; junk = junk; left = left; tear = tear; on = true; node = m .node }
 
--- what a write that power fails at leaves in its page; page 0 is never junk
-abbrev pub torn : Medium → ℕ → List ℕ → List ℕ
-torn m page bytes = cond (eqb (m .tear) 1) bytes (cond (eqb (m .tear) 2 && not (eqb page 0)) (m .junk) (getD (m .pages) page []))
-
--- power fails at a write
+-- power fails at a write: the page is old, new or junk, but page 0 is never junk
 abbrev pub failed : Medium → ℕ → List ℕ → Medium
 failed m page bytes = record {
-  pages = set (m .pages) page (torn m page bytes);
+  pages = cond (eqb (m .tear) 1) (set (m .pages) page bytes) (cond (eqb (m .tear) 2 && not (eqb page 0)) (set (m .pages) page (m .junk)) (m .pages));
   junk = m .junk;
   left = m .left;
   tear = m .tear;

@@ -18,11 +18,13 @@ use std::alloc::Global;
 
 pub type Page = [u8; 512];
 
+const PAGE_BYTES: usize = 512;
+
 // Bytes as a page, if there are as many as a page has.
 pub fn as_page(bytes: &[u8]) -> Option<&Page>
     ensures { λ r. ⌜ Cases r (eqb (length (now (bytes .entry))) 512 ≡ false) (λ p. (now p ≡ now (bytes .entry)) × (eqb (length (now (bytes .entry))) 512 ≡ true)) ⌝ }
 {
-    if bytes.len() == 512 {
+    if bytes.len() == PAGE_BYTES {
         bytes.first_chunk::<512>()
     } else {
         None

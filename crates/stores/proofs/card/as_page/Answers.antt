@@ -20,5 +20,5 @@ whole : (r : Option (RefT (List ℕ))) (bs : List ℕ) → length bs ≡ 512 →
 whole None bs e h = absurd (omega arith)
 whole (Some y) bs e h = (h .same ∙ take-all 512 bs (omega arith), eq-eqb (length bs) 512 e)
 
-pub returns-then-bytes-eq512 : need.returns-then-bytes-eq512
-returns-then-bytes-eq512 c = whole (c .first-chunk .result) (c .args .bytes .now) (c .if-bytes-eq512 .taken) (c .first-chunk .ensures .cases)
+pub returns-then-bytes-eq-PAGE-BYTES : need.returns-then-bytes-eq-PAGE-BYTES
+returns-then-bytes-eq-PAGE-BYTES c = whole (c .first-chunk .result) (c .args .bytes .now) (c .if-bytes-eq-PAGE-BYTES .taken) (c .first-chunk .ensures .cases)
