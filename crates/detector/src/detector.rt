@@ -55,7 +55,10 @@ pub impl Computation for Detector as DetectorComputation {
         (after, emission)
     }
 
-    fn fire(state: &DetectorState) -> (DetectorState, Option<(u32, u16)>) {
+    // Nothing is ever due; asked all the same, it changes and emits nothing.
+    fn fire(state: &DetectorState) -> (DetectorState, Option<(u32, u16)>)
+        ensures { λ r. ⌜ r ≡ detecting .fire (now (state .entry)) ⌝ }
+    {
         (*state, None)
     }
 
