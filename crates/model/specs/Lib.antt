@@ -10,3 +10,4 @@ pub mod Store
 pub mod Bytes
 pub mod FirstBest
 pub mod Names
+pub mod FirstBest

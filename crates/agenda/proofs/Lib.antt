@@ -1,0 +1,4 @@
+mod Holding
+pub mod Choosing
+mod Fresh
+mod Standing
