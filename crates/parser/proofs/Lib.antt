@@ -1,3 +1,6 @@
+mod Answered
 mod Digits
 mod Fronts
+mod SaidBack
+mod Spoken
 mod Taken

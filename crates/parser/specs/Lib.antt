@@ -3,3 +3,4 @@ pub mod Words
 pub mod Numerals
 pub mod Parsed
 pub mod Left
+pub mod Lines

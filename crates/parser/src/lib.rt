@@ -6,5 +6,6 @@ mod taking;
 mod words;
 
 pub use field::Field;
+pub use parse::parse_line;
 pub use words::Misread;
 pub use words::Wanted;
