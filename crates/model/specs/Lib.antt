@@ -10,4 +10,3 @@ pub mod Store
 pub mod Bytes
 pub mod FirstBest
 pub mod Names
-pub mod FirstBest
