@@ -202,5 +202,5 @@ module _ (kits : Kits) (ck : Keeps (kits .collector)) (sk : Keeps (kits .spotter
   throughout [] p r = counted [] p r
   throughout (e ∷ es) p r = (throughout es (e .before) (r .0), counted (e ∷ es) p r)
 
-pub every-count : Every-count
+pub every-count : Every-count Keeps Conserves Totals
 every-count kits ck sk held weighed cs ts es p r = throughout kits ck sk held weighed cs ts es p r

@@ -13,6 +13,7 @@ pub mod Spotter
 pub mod Calls
 pub mod Queues
 pub mod QueueCalls
+pub mod Links
 pub mod Runs
 pub mod Sums
 pub mod Counts

@@ -7,14 +7,16 @@ use mathlib.Core.Bool.{Bool, true, false, cond, not, _||_, false≢true}
 use mathlib.Core.List.{List, [], _∷_, _++_, map}
 use mathlib.Core.Logic.{_⊎_, inl, inr}
 use lib.Dec.{eqb}
-use lib.ListN.{getD, replicate}
+use lib.ListN.{getD, length, replicate}
 use Rattle.std.proofs.shelf.Tests.{cond-both, eqb-true, eq-eqb, or-left, or-right, not-from-false, not-from-true, both-ways}
 use Rattle.std.specs.shelf.Lists.{kept-by}
 use Rattle.std.specs.declared.option.Option.{Option}
 use Rattle.std.specs.declared.option.Option.the-variants.{Some, None}
 use Rattle.model.specs.Computation.{Computation, Lawful, StateBytes, Upto, zeroState}
-use Rattle.model.specs.Limits.{lastTime, stops}
+use Rattle.model.specs.Limits.{lastTime, stops, mostMessages}
 use Rattle.model.specs.Row.{Row, firstRow}
+use Rattle.model.specs.declared.answer.Outcome.{Outcome}
+use Rattle.model.specs.declared.record.Message.{Message}
 use Rattle.model.specs.declared.record.Production.{Production}
 use Rattle.law.specs.Law.{Law, Throughout, Every-run}
 use Rattle.law.specs.Lists.{Mem, Apart}
@@ -24,6 +26,7 @@ use Rattle.law.specs.Rows.{floorOf}
 use Rattle.law.specs.Run.{Event, New, Run, moments, deedOf, hasSerial, landed, waiting}
 use Rattle.law.proofs.Best.{low-tells, low-from}
 use Rattle.law.proofs.Calls.{call-moves}
+use Rattle.law.proofs.Links.{call-fits}
 use Rattle.law.proofs.Lists.{mem-map, mem-is, map-++, apart-split, kept-all}
 use Rattle.law.proofs.Moved.{sound-move, below-move}
 use Rattle.law.proofs.Moves.{Below}
@@ -100,6 +103,11 @@ module _ (kits : Kits) (ck : Keeps (kits .collector)) (sk : Keeps (kits .spotter
   run-holds (e ∷ es) p r =
       subst Holds (r .2) (subst (λ x. Holds (x .1)) (r .1) (call-holds kits ck sk (e .free) (e .before) (run-holds es (e .before) (r .0)) (e .call)))
 
+  run-fits : (es : List Event) (p : Pair) → Run kits es p → length (p .link) ≤ mostMessages
+  run-fits [] p n = let none = ap (λ (xs : List Message). length xs) (n .link) in omega arith
+  run-fits (e ∷ es) p r =
+      subst (λ (q : Pair). length (q .link) ≤ mostMessages) (r .2) (subst (λ (x : Outcome × Pair). length (x .1 .link) ≤ mostMessages) (r .1) (call-fits kits (e .free) (e .before) (run-fits es (e .before) (r .0)) (e .call)))
+
   -- a number below the low watermark stays below it over one more call
   call-below : (b : ℕ) (e : Event) (es : List Event) (p : Pair) → Run kits (e ∷ es) p → Below c d b (worldOf kits es (e .before)) → Below c d b (worldOf kits (e ∷ es) p)
   call-below b e es p r low =
@@ -171,6 +179,7 @@ module _ (kits : Kits) (ck : Keeps (kits .collector)) (sk : Keeps (kits .spotter
         serials-once = λ s h. good s h .line .serials;
         never-falls = never-falls kits ck sk es p r;
         none-late = λ s x h m. let k = mem-is x (waiting kits s es p) (good s h .waits) (waits s h) m in omega (arith, good s h .times .spotted x k, good s h .times .passed x k);
+        link-fits = run-fits kits ck sk es p r;
         queued = run-holds kits ck sk es p r .collector;
       }
 
@@ -178,5 +187,5 @@ module _ (kits : Kits) (ck : Keeps (kits .collector)) (sk : Keeps (kits .spotter
   throughout [] p r = law [] p r
   throughout (e ∷ es) p r = (throughout es (e .before) (r .0), law (e ∷ es) p r)
 
-pub every-run : Every-run
+pub every-run : Every-run Keeps
 every-run kits ck sk es p r = throughout kits ck sk es p r

@@ -30,5 +30,5 @@ module _ (kits : Kits) (ck : Keeps (kits .collector)) (sk : Keeps (kits .spotter
         lawful = every-run kits ck sk (e ∷ fs) (e .after) r;
       }
 
-pub every-telling : Every-telling
+pub every-telling : Every-telling Keeps
 every-telling kits ck sk es = (told-none kits ck sk es, told-more kits ck sk es)

@@ -3,14 +3,15 @@ use Prim.Native.Nat.{ℕ, _+_, _≤_, _<_}
 use mathlib.Core.Path.{_≡_}
 use mathlib.Core.Bool.{Bool, true, false}
 use mathlib.Core.List.{List, [], _∷_, _++_, map}
-use Rattle.model.specs.Computation.{StateBytes, Conserves, Totals}
-use Rattle.model.specs.Limits.{stops}
+use lib.ListN.{length}
+use Rattle.model.specs.Computation.{Computation, StateBytes}
+use Rattle.model.specs.Limits.{stops, mostMessages}
 use Rattle.model.specs.declared.answer.Outcome.{Outcome}
 use Rattle.model.specs.declared.call.Call.{Call}
 use Rattle.model.specs.declared.record.Production.{Production}
 use Rattle.model.specs.declared.record.Record.{Record}
 use Rattle.law.specs.Lists.{Mem, Apart, total}
-use Rattle.law.specs.Node.{Node, Keeps}
+use Rattle.law.specs.Node.{Kit, Node}
 use Rattle.law.specs.Pair.{Kits, Pair, lowWatermark}
 use Rattle.law.specs.Rows.{floorOf}
 use Rattle.law.specs.Run.{Event, Happened, Run, Goes, moments, allTaken, taken, made, landed, waiting}
@@ -33,6 +34,8 @@ pub record Law (kits : Kits) (es : List Event) (p : Pair) : Type 0 where
   pub never-falls : (q : Pair) → Mem q (moments es p) → lowWatermark kits q ≤ lowWatermark kits p
   -- no waiting production is late at the spotter
   pub none-late : (s : ℕ) (x : Production) → s < stops → Mem x (waiting kits s es p) → floorOf (kits .spotter .computation) (p .spotter .w) (p .spotter .row s .state) ≤ x .time
+  -- the link holds no more messages than it may
+  pub link-fits : length (p .link) ≤ mostMessages
   -- while the collector is on, its queue holds exactly the stops with something pending, each once
   pub queued : p .collector .power .on ≡ true → Queued (p .collector)
 
@@ -41,10 +44,10 @@ abbrev pub Throughout : (List Event → Pair → Type 0) → List Event → Pair
 Throughout Holds [] p = Holds [] p
 Throughout Holds (e ∷ es) p = Throughout Holds es (e .before) × Holds (e ∷ es) p
 
--- the law of every run, for any two computations that keep their laws and any two stores
-abbrev pub Every-run : Type 0
-Every-run =
-    (kits : Kits) → Keeps (kits .collector) → Keeps (kits .spotter) →
+-- the law of every run, for any two nodes of which so much is asked
+abbrev pub Every-run : (Kit → Type 0) → Type 0
+Every-run Asked =
+    (kits : Kits) → Asked (kits .collector) → Asked (kits .spotter) →
     (es : List Event) (p : Pair) → Run kits es p → Throughout (Law kits) es p
 
 -- the amounts of all records taken by the collector
@@ -64,11 +67,15 @@ abbrev pub Counted : Kits → (List ℕ → ℕ) → (List ℕ → ℕ) → List
 Counted kits held landed es p =
     takenAmount kits es ≡ (measured held (p .collector) + waitingAmount kits es p) + measured landed (p .spotter)
 
--- the count, for computations with the law of weight
-abbrev pub Every-count : Type 0
-Every-count =
-    (kits : Kits) → Keeps (kits .collector) → Keeps (kits .spotter) →
-    (held landed : List ℕ → ℕ) → Conserves (kits .collector .computation) StateBytes held → Totals (kits .spotter .computation) StateBytes landed →
+-- a law of weight: of a computation, where it is sound, and of a measure of its states
+abbrev pub Weight : Type 1
+Weight = Computation (List ℕ) → (List ℕ → Type 0) → (List ℕ → ℕ) → Type 0
+
+-- the count of every run, for computations whose measures are so related to what they take
+abbrev pub Every-count : (Kit → Type 0) → Weight → Weight → Type 0
+Every-count Asked Holding Totalling =
+    (kits : Kits) → Asked (kits .collector) → Asked (kits .spotter) →
+    (held landed : List ℕ → ℕ) → Holding (kits .collector .computation) StateBytes held → Totalling (kits .spotter .computation) StateBytes landed →
     (es : List Event) (p : Pair) → Run kits es p → Throughout (Counted kits held landed) es p
 
 -- a run from a new pair goes on by more calls, with the law at its every moment
@@ -77,9 +84,9 @@ pub record Told (kits : Kits) (es : List Event) (calls : List Call) (outcomes : 
   pub lawful : Throughout (Law kits) fs q
 
 -- a run is told up to where it is, and then on by one call more
-abbrev pub Every-telling : Type 0
-Every-telling =
-    (kits : Kits) → Keeps (kits .collector) → Keeps (kits .spotter) → (es : List Event) →
+abbrev pub Every-telling : (Kit → Type 0) → Type 0
+Every-telling Asked =
+    (kits : Kits) → Asked (kits .collector) → Asked (kits .spotter) → (es : List Event) →
     ((p : Pair) → Run kits es p → Told kits es [] [] es p) ×
     ((calls : List Call) (outcomes : List Outcome) (fs : List Event) (q : Pair) → Told kits es calls outcomes fs q →
     (e : Event) → Happened kits e → e .before ≡ q → Told kits es (calls ++ (e .call ∷ [])) (outcomes ++ (e .outcome ∷ [])) (e ∷ fs) (e .after))
