@@ -12,9 +12,9 @@ use Rattle.counter.specs.Counter.{earliestFrom}
 use Rattle.law.specs.Law.{Law}
 use Rattle.law.specs.Pair.{Kits, Pair, happens}
 use Rattle.law.specs.Run.{Event, Rules, RunBy, New, outcomesOf}
-use Rattle.model.specs.FirstBest.{firstBest}
-use Rattle.law.specs.Stops.{lowBelow, pendingBelow}
+use Rattle.law.specs.Stops.{firstBest, lowBelow, pendingBelow, sumBelow}
 use Rattle.runs.specs.Counting.{counting}
+use Rattle.runs.specs.Delivery.{Delivery, places}
 use Rattle.runs.specs.Play.{play, playOn, newPair, event, uncut, asked}
 use Rattle.runs.specs.Worked.{workedCalls, workedOutcomes, Worked-run}
 use Rattle.runs.specs.Wrong.{Breaks, hasty, forgetful, dueless}
@@ -97,3 +97,7 @@ dueless-breaks = record {
   run = play-run (dueless counting) dueless-calls;
   broken = dueless-broken;
 }
+
+pub delivery : Delivery
+unfolding playOn firstBest lowBelow pendingBelow earliestFrom places sumBelow
+delivery = record { outcomes = refl; where-they-are = refl }

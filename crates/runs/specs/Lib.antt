@@ -2,3 +2,4 @@ pub mod Counting
 pub mod Play
 pub mod Worked
 pub mod Wrong
+pub mod Delivery

@@ -3,6 +3,7 @@ ghost use mathlib.Core.List.{map};
 ghost use mathlib.Core.Path.{_≡_};
 ghost use Rattle.model.specs.Answers.{answerNumber, outcomeAnswer};
 ghost use Rattle.runs.specs.Counting.{Counter-law, counting};
+ghost use Rattle.runs.specs.Delivery.{Delivery};
 ghost use Rattle.runs.specs.Worked.{Worked-run, workedOutcomes};
 ghost use Rattle.runs.specs.Wrong.{Breaks, hasty, forgetful, dueless};
 
@@ -19,6 +20,11 @@ pub fn worked_answers() -> [u8; 13]
 {
     [0, 0, 0, 4, 0, 0, 0, 0, 0, 4, 0, 13, 0]
 }
+
+// One delivery that is lost, sent again and doubled: the outcomes, and where the requests are at each moment.
+pub fn a_delivery_moment_by_moment()
+    ensures { λ _. ⌜ Delivery ⌝ }
+{}
 
 // An acknowledgement that clears whatever is oldest loses a production.
 pub fn clearing_any_breaks_the_law()
