@@ -4,7 +4,7 @@ use native.Mathlib.Omega.{arith}
 use mathlib.Core.Path.{_≡_, refl, sym, _∙_, ap, subst}
 use mathlib.Core.Bool.{Bool, true, false, cond, true≢false, false≢true}
 use mathlib.Core.List.{List, [], _∷_, _++_}
-use mathlib.Core.Logic.{_⊎_, inl, inr}
+use mathlib.Core.Logic.{_⊎_, inl, inr, _↔_}
 use lib.Dec.{ltb}
 use Rattle.std.proofs.shelf.Tests.{cond-both, ltb-true, ltb-false, lt-ltb, le-ltb, cases-eq, cases-order}
 use Rattle.std.specs.declared.option.Option.{Option}
@@ -13,7 +13,7 @@ use Rattle.model.specs.Computation.{Computation, Upto}
 use Rattle.model.specs.Limits.{stops}
 use Rattle.model.specs.Row.{Row}
 use Rattle.model.specs.declared.record.Production.{Production}
-use Rattle.law.specs.Bests.{FirstDue, Crowd, Lows, Bests}
+use Rattle.law.specs.Bests.{FirstDue, Crowd, Lows}
 use Rattle.law.specs.Lists.{Mem}
 use Rattle.model.specs.FirstBest.{better, firstBest}
 use Rattle.model.specs.Row.{oldest}
@@ -181,11 +181,5 @@ module _ (c : Computation (List ℕ)) (rows : ℕ → Row) (w b : ℕ) where
   pub low-from : Lows c rows w b stops → b ≤ lowest c rows w
   low-from l = below-lows stops l
 
-pub bests : Bests
-bests = (
-  earliest-is,
-  none-due,
-  greatest-is,
-  none-pending,
-  λ c rows w b. (low-tells c rows w b, low-from c rows w b),
-)
+pub low-is : (c : Computation (List ℕ)) (rows : ℕ → Row) (w b : ℕ) → (b ≤ lowest c rows w) ↔ Lows c rows w b stops
+low-is c rows w b = (low-tells c rows w b, low-from c rows w b)

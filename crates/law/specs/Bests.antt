@@ -1,18 +1,16 @@
--- What the earliest due, the greatest production and the low watermark are, in other words: each is the one and only
--- answer with these properties. Assumes nothing.
+-- What the earliest due, the greatest production and the low watermark are, in other words. Assumes nothing.
 use Prim.Native.Nat.{ℕ, _≤_, _<_}
 use mathlib.Core.Path.{_≡_}
 use mathlib.Core.List.{List}
-use mathlib.Core.Logic.{_⊎_, _↔_}
+use mathlib.Core.Logic.{_⊎_}
 use Rattle.std.specs.declared.option.Option.{Option}
-use Rattle.std.specs.declared.option.Option.the-variants.{Some, None}
+use Rattle.std.specs.declared.option.Option.the-variants.{Some}
 use Rattle.model.specs.Computation.{Computation, Upto}
 use Rattle.model.specs.Limits.{stops}
 use Rattle.model.specs.Row.{Row}
 use Rattle.model.specs.declared.record.Production.{Production}
 use Rattle.law.specs.Lists.{Mem}
-use Rattle.model.specs.Row.{oldest}
-use Rattle.law.specs.Stops.{earliest, greatest, lowest}
+use Rattle.law.specs.Stops.{oldest}
 
 -- stop s is due at t, and no stop is due before it, nor a lower stop with it
 pub record FirstDue (c : Computation (List ℕ)) (rows : ℕ → Row) (s t : ℕ) : Type 0 where
@@ -31,11 +29,3 @@ pub record Lows (c : Computation (List ℕ)) (rows : ℕ → Row) (w b n : ℕ) 
   pub watermark : b ≤ w
   pub pending : (s : ℕ) → s < n → (p : Production) → Mem p (rows s .pending) → b ≤ p .time
   pub dues : (s : ℕ) → s < n → Upto b (c .due (rows s .state))
-
-abbrev pub Bests : Type 0
-Bests =
-    ((c : Computation (List ℕ)) (rows : ℕ → Row) (s t : ℕ) → FirstDue c rows s t → earliest c rows ≡ Some (s, t)) ×
-    ((c : Computation (List ℕ)) (rows : ℕ → Row) → ((q : ℕ) → q < stops → c .due (rows q .state) ≡ None) → earliest c rows ≡ None) ×
-    ((rows : ℕ → Row) (s : ℕ) (x : Production) → Crowd rows s x → greatest rows ≡ Some (s, x)) ×
-    ((rows : ℕ → Row) → ((q : ℕ) → q < stops → oldest (rows q .pending) ≡ None) → greatest rows ≡ None) ×
-    ((c : Computation (List ℕ)) (rows : ℕ → Row) (w b : ℕ) → (b ≤ lowest c rows w) ↔ Lows c rows w b stops)

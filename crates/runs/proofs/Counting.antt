@@ -21,7 +21,7 @@ pub detector-keeps : (cost turn : ℕ) → 1 ≤ turn → turn ≤ cost → Keep
 detector-keeps cost turn starts ends =
     record { lawful = lawful-on-bytes detector DetectorSound detector-lawful; zeros = refl; turn-starts = starts; turn-ends = ends }
 
-pub counter-law : Counter-law
+pub counter-law : Counter-law openIn landedIn
 counter-law cost turn cost′ turn′ a b a′ b′ es p r =
     let kits : Kits = record { collector = counterKit cost turn; spotter = detectorKit cost′ turn′ } in
     let ck = counter-keeps cost turn a b in

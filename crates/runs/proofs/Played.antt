@@ -14,9 +14,9 @@ use Rattle.law.specs.Pair.{Kits, Pair, happens}
 use Rattle.law.specs.Run.{Event, Rules, RunBy, New, outcomesOf}
 use Rattle.law.specs.Stops.{firstBest, lowBelow, pendingBelow, sumBelow}
 use Rattle.runs.specs.Counting.{counting}
-use Rattle.runs.specs.Delivery.{Delivery, places}
-use Rattle.runs.specs.Play.{play, playOn, newPair, event, uncut, asked}
-use Rattle.runs.specs.Worked.{workedCalls, workedOutcomes, Worked-run}
+use Rattle.runs.specs.Delivery.{deliveryCalls, deliveryOutcomes, deliveryPlaces, places, Places}
+use Rattle.runs.specs.Play.{play, Plays, playOn, newPair, event, uncut, asked}
+use Rattle.runs.specs.Worked.{workedCalls, workedOutcomes}
 use Rattle.runs.specs.Wrong.{Breaks, hasty, forgetful, dueless}
 
 new-pair : New newPair
@@ -35,12 +35,23 @@ play-on-run rules es p (c ∷ cs) r =
 pub play-run : (rules : Rules) (calls : List Call) → RunBy rules (play rules calls .0) (play rules calls .1)
 play-run rules calls = play-on-run rules [] newPair calls new-pair
 
-told : outcomesOf (play (happens counting) workedCalls .0) ≡ workedOutcomes
+worked-outcomes : outcomesOf (play (happens counting) workedCalls .0) ≡ workedOutcomes
 unfolding playOn firstBest lowBelow pendingBelow earliestFrom
-told = refl
+worked-outcomes = refl
 
-pub worked-run : Worked-run
-worked-run = record { run = play-run (happens counting) workedCalls; outcomes = told }
+pub worked : Plays (happens counting) workedCalls workedOutcomes
+worked = record { run = play-run (happens counting) workedCalls; outcomes-are = worked-outcomes }
+
+delivery-outcomes : outcomesOf (play (happens counting) deliveryCalls .0) ≡ deliveryOutcomes
+unfolding playOn firstBest lowBelow pendingBelow earliestFrom
+delivery-outcomes = refl
+
+pub delivery : Plays (happens counting) deliveryCalls deliveryOutcomes
+delivery = record { run = play-run (happens counting) deliveryCalls; outcomes-are = delivery-outcomes }
+
+pub delivery-places : Places deliveryCalls deliveryPlaces
+unfolding playOn firstBest lowBelow pendingBelow earliestFrom places sumBelow
+delivery-places = refl
 
 -- power for all that follows
 on : List Call → List Call
@@ -97,7 +108,3 @@ dueless-breaks = record {
   run = play-run (dueless counting) dueless-calls;
   broken = dueless-broken;
 }
-
-pub delivery : Delivery
-unfolding playOn firstBest lowBelow pendingBelow earliestFrom places sumBelow
-delivery = record { outcomes = refl; where-they-are = refl }

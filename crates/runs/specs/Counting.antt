@@ -29,9 +29,9 @@ openIn bs = held (counter .load bs)
 abbrev pub landedIn : List ℕ → ℕ
 landedIn bs = detector .load bs .total
 
--- the whole law, with nothing left to assume
-abbrev pub Counter-law : Type 0
-Counter-law =
+-- the whole law, with nothing left to assume, by these measures of the two states
+abbrev pub Counter-law : (List ℕ → ℕ) → (List ℕ → ℕ) → Type 0
+Counter-law inOpen landed =
     (cost turn cost′ turn′ : ℕ) → 1 ≤ turn → turn ≤ cost → 1 ≤ turn′ → turn′ ≤ cost′ →
     let kits : Kits = record { collector = counterKit cost turn; spotter = detectorKit cost′ turn′ } in
-    (es : List Event) (p : Pair) → Run kits es p → Throughout (Law kits) es p × Throughout (Counted kits openIn landedIn) es p
+    (es : List Event) (p : Pair) → Run kits es p → Throughout (Law kits) es p × Throughout (Counted kits inOpen landed) es p

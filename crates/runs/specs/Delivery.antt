@@ -11,7 +11,7 @@ use Rattle.model.specs.declared.call.Call.the-variants.{HandIn, Advance, Fire, 
 use Rattle.model.specs.declared.call.Junk.the-variants.{Fill}
 use Rattle.law.specs.Law.{takenAmount, measured, waitingAmount}
 use Rattle.law.specs.Pair.{Pair, happens}
-use Rattle.law.specs.Run.{Event, outcomesOf}
+use Rattle.law.specs.Run.{Event}
 use Rattle.runs.specs.Counting.{counting, openIn, landedIn}
 use Rattle.runs.specs.Play.{play, asked}
 
@@ -55,15 +55,43 @@ places (e ∷ es) p = places es (e .before) ++ (placeAt (e ∷ es) p ∷ [])
 abbrev pub at : ℕ → ℕ → ℕ → ℕ → Place
 at taken inOpen waiting landed = record { taken = taken; inOpen = inOpen; waiting = waiting; landed = landed }
 
-pub record Delivery : Type 0 where
-  pub outcomes
-      : outcomesOf (play (happens counting) deliveryCalls .0)
-      ≡ Plain Done ∷ Plain Done ∷ Plain Done ∷ Plain Done ∷ Plain Done ∷ Plain Done ∷ Plain Done ∷ Plain Done ∷ Plain Done ∷ Plain Done ∷ Plain Seen ∷ Plain Done ∷ Plain NotOldest ∷ []
-  -- the start and both restarts; in the open minute; waiting from the fire on, lost or not; landed from the first arrival on
-  pub where-they-are
-      : places (play (happens counting) deliveryCalls .0) (play (happens counting) deliveryCalls .1)
-      ≡ at 0 0 0 0 ∷ at 0 0 0 0 ∷ at 0 0 0 0
-      ∷ at 12 12 0 0 ∷ at 12 12 0 0
-      ∷ at 12 0 12 0 ∷ at 12 0 12 0 ∷ at 12 0 12 0 ∷ at 12 0 12 0 ∷ at 12 0 12 0
-      ∷ at 12 0 0 12 ∷ at 12 0 0 12 ∷ at 12 0 0 12 ∷ at 12 0 0 12
-      ∷ []
+abbrev pub deliveryOutcomes : List Outcome
+deliveryOutcomes =
+    Plain Done ∷
+    Plain Done ∷
+    Plain Done ∷
+    Plain Done ∷
+    Plain Done ∷
+    Plain Done ∷
+    Plain Done ∷
+    Plain Done ∷
+    Plain Done ∷
+    Plain Done ∷
+    Plain Seen ∷
+    Plain Done ∷
+    Plain NotOldest ∷
+    []
+
+-- nowhere until they are handed in; then in the open minute; waiting from the fire on, lost on the way or not; landed
+-- from the first arrival on, doubled or not
+abbrev pub deliveryPlaces : List Place
+deliveryPlaces =
+    at 0 0 0 0 ∷
+    at 0 0 0 0 ∷
+    at 0 0 0 0 ∷
+    at 12 12 0 0 ∷
+    at 12 12 0 0 ∷
+    at 12 0 12 0 ∷
+    at 12 0 12 0 ∷
+    at 12 0 12 0 ∷
+    at 12 0 12 0 ∷
+    at 12 0 12 0 ∷
+    at 12 0 0 12 ∷
+    at 12 0 0 12 ∷
+    at 12 0 0 12 ∷
+    at 12 0 0 12 ∷
+    []
+
+-- in the run of these calls the requests are in these places
+abbrev pub Places : List Call → List Place → Type 0
+Places calls ps = places (play (happens counting) calls .0) (play (happens counting) calls .1) ≡ ps

@@ -1,5 +1,6 @@
 -- A list of calls is played from a new pair, by given rules. Assumes nothing.
 use Prim.Native.Nat.{ℕ}
+use mathlib.Core.Path.{_≡_}
 use mathlib.Core.Bool.{false}
 use mathlib.Core.List.{List, [], _∷_}
 use Rattle.model.specs.Row.{firstRow}
@@ -8,7 +9,7 @@ use Rattle.model.specs.declared.call.Call.{Call}
 use Rattle.model.specs.declared.record.Record.{Record}
 use Rattle.law.specs.Node.{Free, Node}
 use Rattle.law.specs.Pair.{Pair}
-use Rattle.law.specs.Run.{Event, Rules}
+use Rattle.law.specs.Run.{Event, Rules, RunBy, outcomesOf}
 
 -- a node and a pair that nothing has happened to
 abbrev pub newNode : Node
@@ -35,3 +36,8 @@ play rules calls = playOn rules [] newPair calls
 -- a record of sender 7
 abbrev pub asked : ℕ → ℕ → ℕ → ℕ → Record
 asked s serial t a = record { name = record { sender = 7; serial = serial; time = t }; stop = s; amount = a }
+
+-- the calls are a run of the pair, with these outcomes
+pub record Plays (rules : Rules) (calls : List Call) (outcomes : List Outcome) : Type 0 where
+  pub run : RunBy rules (play rules calls .0) (play rules calls .1)
+  pub outcomes-are : outcomesOf (play rules calls .0) ≡ outcomes

@@ -1,7 +1,5 @@
 -- The worked run of thirteen calls: a record handed in twice, a minute fired, its production sent, doubled on the way,
 -- delivered twice and acknowledged twice. Assumes nothing.
-use Prim.Native.Nat.{ℕ}
-use mathlib.Core.Path.{_≡_}
 use mathlib.Core.List.{List, [], _∷_}
 use Rattle.model.specs.declared.answer.Answer.the-variants.{Done, Seen, NotOldest}
 use Rattle.model.specs.declared.answer.Outcome.{Outcome}
@@ -9,10 +7,7 @@ use Rattle.model.specs.declared.answer.Outcome.the-variants.{Plain, Shown}
 use Rattle.model.specs.declared.call.Call.{Call}
 use Rattle.model.specs.declared.call.Call.the-variants.{HandIn, Advance, Fire, Send, Repeat, Deliver, Restart, Show}
 use Rattle.model.specs.declared.call.Junk.the-variants.{Fill}
-use Rattle.law.specs.Pair.{happens}
-use Rattle.law.specs.Run.{Run, outcomesOf}
-use Rattle.runs.specs.Counting.{counting}
-use Rattle.runs.specs.Play.{play, asked}
+use Rattle.runs.specs.Play.{asked}
 
 abbrev pub workedCalls : List Call
 workedCalls =
@@ -47,8 +42,3 @@ workedOutcomes =
     Plain NotOldest ∷
     Shown 3 (record { serial = 0; time = 60; amount = 12 }) ∷
     []
-
--- it is a run, and these are its outcomes
-pub record Worked-run : Type 0 where
-  pub run : Run counting (play (happens counting) workedCalls .0) (play (happens counting) workedCalls .1)
-  pub outcomes : outcomesOf (play (happens counting) workedCalls .0) ≡ workedOutcomes
