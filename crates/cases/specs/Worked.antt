@@ -1,16 +1,18 @@
 -- Worked cases, each an equation with the definitions that the contracts use. Assumes nothing.
 use Prim.Native.Nat.{ℕ}
 use mathlib.Core.Path.{_≡_}
-use mathlib.Core.Bool.{Bool, true, false}
+use mathlib.Core.Bool.{true, false}
+use mathlib.Core.List.{List, [], _∷_}
 use Rattle.std.specs.declared.option.Option.{Option}
 use Rattle.std.specs.declared.option.Option.the-variants.{Some, None}
-use Rattle.model.specs.Admission.{judged}
 use Rattle.model.specs.Computation.{zeroState}
+use Rattle.model.specs.OnBytes.{onBytes}
 use Rattle.model.specs.Power.{Power, commitAnswer, renewed, spent, restartAnswer, restarted}
 use Rattle.model.specs.declared.answer.Answer.{Answer}
 use Rattle.model.specs.declared.answer.Answer.the-variants.{Done, Late, Early, Over, Cut}
 use Rattle.model.specs.declared.answer.CutPoint.{CutPoint}
 use Rattle.model.specs.declared.record.Record.{Record}
+use Rattle.law.specs.Node.{Node, handIn}
 use Rattle.counter.specs.Counter.{counter}
 use Rattle.counter.specs.declared.state.CounterState.{CounterState}
 use Rattle.detector.specs.Detector.{detector}
@@ -27,22 +29,50 @@ holding a = counter .take empty 0 30 a .0
 abbrev pub asked : ℕ → ℕ → Record
 asked t a = record { name = record { sender = 7; serial = 1; time = t }; stop = 3; amount = a }
 
--- what a collector that is on answers to a new record, before it looks for room; `Done` is admitted
-abbrev pub answer : CounterState → ℕ → ℕ → ℕ → Answer
-answer s w t a = judged counter s true w false (asked t a)
+-- power that lasts so many writes and then leaves the page old at tear 0, new at 1, junk at 2
+abbrev pub lasting : ℕ → ℕ → Power
+lasting left tear = record { on = true; left = left; tear = tear; owed = 0 }
+
+-- a collector over a journal store, every stop of which has counted so much at this watermark
+abbrev pub collector : CounterState → ℕ → Node
+collector s w = record {
+  row = λ q. record { next = 0; state = counter .store s; pending = []; names = [] };
+  w = w;
+  power = lasting 100 0;
+  queue = [];
+}
+
+-- what it makes of a record that is handed in
+abbrev pub handed : CounterState → ℕ → ℕ → ℕ → Answer × Node
+handed s w t a =
+    handIn
+    (record { computation = onBytes counter; cost = 4; turn = 2 })
+    (record { owed = 0; point = record { node = 0; row = 3; page = 0 } })
+    (asked t a)
+    (collector s w)
+
+-- the record is taken: its name stands in the row, and the state is the one after the take
+pub record Taken (s : CounterState) (w t a : ℕ) : Type 0 where
+  pub done : handed s w t a .0 ≡ Done
+  pub named : handed s w t a .1 .row 3 .names ≡ asked t a .name ∷ []
+  pub counted : handed s w t a .1 .row 3 .state ≡ counter .store (counter .take s w t a .0)
+
+-- the record is refused, and nothing has changed
+abbrev pub Refused : CounterState → ℕ → ℕ → ℕ → Answer → Type 0
+Refused s w t a answer = handed s w t a ≡ (answer, collector s w)
 
 -- which times a counter takes at a watermark, and how much
 pub record Counted : Type 0 where
-  pub empty-239 : answer empty 0 239 1 ≡ Done
-  pub empty-240 : answer empty 0 240 1 ≡ Early
-  pub at-60-empty-59 : answer empty 60 59 1 ≡ Late
-  pub at-60-empty-60 : answer empty 60 60 1 ≡ Done
-  pub at-60-empty-299 : answer empty 60 299 1 ≡ Done
-  pub at-60-empty-300 : answer empty 60 300 1 ≡ Early
-  pub at-60-open-239 : answer (holding 12) 60 239 1 ≡ Done
-  pub at-60-open-240 : answer (holding 12) 60 240 1 ≡ Early
-  pub up-to-the-largest-sum : answer (holding 40000) 0 30 25535 ≡ Done
-  pub past-the-largest-sum : answer (holding 40000) 0 30 25536 ≡ Over
+  pub empty-239 : Taken empty 0 239 1
+  pub empty-240 : Refused empty 0 240 1 Early
+  pub at-60-empty-59 : Refused empty 60 59 1 Late
+  pub at-60-empty-60 : Taken empty 60 60 1
+  pub at-60-empty-299 : Taken empty 60 299 1
+  pub at-60-empty-300 : Refused empty 60 300 1 Early
+  pub at-60-open-239 : Taken (holding 12) 60 239 1
+  pub at-60-open-240 : Refused (holding 12) 60 240 1 Early
+  pub up-to-the-largest-sum : Taken (holding 40000) 0 30 25535
+  pub past-the-largest-sum : Refused (holding 40000) 0 30 25536 Over
 
 -- a stop's detector to which nothing has happened, one that predicts so much, and what it does with an amount
 abbrev pub unaware : DetectorState
@@ -80,10 +110,6 @@ pub record Detected : Type 0 where
   pub two-moves : two .0 .predicted ≡ 49
   pub ten-at-80-tells : after (predicting 80) 60 10 .1 ≡ Some (60, 10)
   pub ten-at-81-is-quiet : after (predicting 81) 60 10 .1 ≡ None
-
--- power that lasts so many writes and then leaves the page old at tear 0, new at 1, junk at 2
-abbrev pub lasting : ℕ → ℕ → Power
-lasting left tear = record { on = true; left = left; tear = tear; owed = 0 }
 
 -- a shadow store commits by two writes and turns at the second; with one left the second is the cut
 pub record Shadowed (point : CutPoint) : Type 0 where

@@ -7,15 +7,15 @@ counts : Counted
 unfolding earliestFrom
 counts =
     record {
-      empty-239 = refl;
+      empty-239 = record { done = refl; named = refl; counted = refl };
       empty-240 = refl;
       at-60-empty-59 = refl;
-      at-60-empty-60 = refl;
-      at-60-empty-299 = refl;
+      at-60-empty-60 = record { done = refl; named = refl; counted = refl };
+      at-60-empty-299 = record { done = refl; named = refl; counted = refl };
       at-60-empty-300 = refl;
-      at-60-open-239 = refl;
+      at-60-open-239 = record { done = refl; named = refl; counted = refl };
       at-60-open-240 = refl;
-      up-to-the-largest-sum = refl;
+      up-to-the-largest-sum = record { done = refl; named = refl; counted = refl };
       past-the-largest-sum = refl;
     }
 
