@@ -47,7 +47,7 @@ abbrev pub handed : CounterState → ℕ → ℕ → ℕ → Answer × Node
 handed s w t a =
     handIn
     (record { computation = onBytes counter; cost = 4; turn = 2 })
-    (record { owed = 0; point = record { node = 0; row = 3; page = 0 } })
+    (record { owed = 0; point = λ q. record { node = 0; row = q; page = 0 }; wake = record { node = 0; row = 0; page = 0 } })
     (asked t a)
     (collector s w)
 

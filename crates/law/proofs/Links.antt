@@ -27,8 +27,9 @@ use Rattle.model.specs.declared.record.Message.the-variants.{Produced, Acknowle
 use Rattle.model.specs.declared.record.Production.{Production}
 use Rattle.law.specs.Node.{Free, handIn, raise, fire, clear, restart}
 use Rattle.law.specs.Pair.{Kits, Pair, happens, atCollector, atSpotter, atNode, withLink, sendPending, sendHead, sendFrom, repeatOf, arrives, asRecord, reply, deliverOf, lowWatermark}
-use Rattle.law.specs.Rows.{isDone, isSeen}
-use Rattle.law.specs.Stops.{oldest, pendingStops}
+use Rattle.model.specs.Answers.{isDone, isSeen}
+use Rattle.model.specs.Row.{oldest}
+use Rattle.law.specs.Stops.{pendingStops}
 use Rattle.law.proofs.Next.{none-some}
 
 -- what stands at a place is there

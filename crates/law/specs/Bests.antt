@@ -10,7 +10,7 @@ use Rattle.model.specs.Limits.{stops}
 use Rattle.model.specs.Row.{Row}
 use Rattle.model.specs.declared.record.Production.{Production}
 use Rattle.law.specs.Lists.{Mem}
-use Rattle.law.specs.Stops.{oldest}
+use Rattle.model.specs.Row.{oldest}
 
 -- stop s is due at t, and no stop is due before it, nor a lower stop with it
 pub record FirstDue (c : Computation (List ℕ)) (rows : ℕ → Row) (s t : ℕ) : Type 0 where

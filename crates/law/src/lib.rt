@@ -15,7 +15,8 @@ ghost use Rattle.model.specs.declared.record.Production.{Production};
 ghost use Rattle.law.specs.Bests.{FirstDue, Crowd, Lows};
 ghost use Rattle.law.specs.Law.{Every-run, Every-count, Every-telling};
 ghost use Rattle.law.specs.Node.{Keeps};
-ghost use Rattle.law.specs.Stops.{earliest, greatest, lowest, oldest};
+ghost use Rattle.model.specs.Row.{oldest};
+ghost use Rattle.law.specs.Stops.{earliest, greatest, lowest};
 
 // At every moment of every run from a new pair: no record name was taken twice for one stop; for each stop, what the spotter
 // took and then what is waiting is in order all that the collector made, no serial twice; the low watermark has not fallen,

@@ -12,7 +12,8 @@ use Rattle.counter.specs.Counter.{earliestFrom}
 use Rattle.law.specs.Law.{Law}
 use Rattle.law.specs.Pair.{Kits, Pair, happens}
 use Rattle.law.specs.Run.{Event, Rules, RunBy, New, outcomesOf}
-use Rattle.law.specs.Stops.{firstBest, lowBelow, pendingBelow, sumBelow}
+use Rattle.model.specs.FirstBest.{firstBest}
+use Rattle.law.specs.Stops.{lowBelow, pendingBelow, sumBelow}
 use Rattle.runs.specs.Counting.{counting}
 use Rattle.runs.specs.Delivery.{deliveryCalls, deliveryOutcomes, deliveryPlaces, places, Places}
 use Rattle.runs.specs.Play.{play, Plays, playOn, newPair, event, uncut, asked}
