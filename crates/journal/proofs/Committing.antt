@@ -8,18 +8,19 @@ use mathlib.Core.List.{List, []}
 use lib.ListN.{length, getD, set}
 use lib.Dec.{leb, eqb}
 use Rattle.std.proofs.shelf.Lists.{getD-set-same, getD-set-other, set-getD, length-set}
-use Rattle.std.proofs.shelf.Tests.{cases-order, cases-bool, cond-true, cond-false, le-leb, leb-false, ne-eqb, or-left, both-ways}
+use Rattle.std.proofs.shelf.Tests.{cases-order, cases-bool, cond-true, cond-false, le-leb, leb-false, ne-eqb, eqb-true, or-left, both-ways}
+use Rattle.model.specs.Answers.{answerNumber}
 use Rattle.model.specs.Limits.{pageBytes}
 use Rattle.model.specs.Power.{Power, commitAnswer, renewed, spent}
 use Rattle.model.specs.Store.{Stored}
 use Rattle.model.specs.declared.answer.Answer.{Answer}
-use Rattle.model.specs.declared.answer.Answer.the-variants.{Done, Cut}
+use Rattle.model.specs.declared.answer.Answer.the-variants.{Done, OutOfRange, Off, Late, Seen, Early, Over, Full, NoRoom, Cut, Nothing, LinkFull, NoMessage, NotOldest}
 use Rattle.model.specs.declared.answer.CutPoint.{CutPoint}
 use Rattle.stores.specs.Cards.{Medium, cutAt, landed, writtenBoth, writeBothAnswer}
 use Rattle.stores.specs.Rows.{rowsBy}
 use Rattle.stores.proofs.Failing.{torn, tornAt, torn-zero}
 use Rattle.stores.proofs.Writing.{cut-first, cut-second, done-both, answer-first, answer-second, answer-done}
-use Rattle.journal.specs.Layout.{rowCount, pageCount, Sound, meaning, commitCutAt, cutPage, owedBy, owedAfterWrites, home, mark, markPage, rowIn}
+use Rattle.journal.specs.Layout.{rowCount, pageCount, Sound, Journals, lasting, begun, begunAnswer, meaning, commitCutAt, cutPage, owedBy, owedAfterWrites, home, mark, markPage, rowIn}
 use Rattle.journal.proofs.Marking.{mark-is, marked, settled, rows-newer, rows-kept, sound-by}
 
 -- a commit that was not refused: its answer a, and the card n after it
@@ -34,6 +35,26 @@ pub record Went (m n : Medium) (r : ℕ) (b : List ℕ) (a : Answer) : Type 0 wh
 
 pub owed-marked : (r : ℕ) → owedBy (r + 1) ≡ 2
 owed-marked r = cond-false _ _ _ (ne-eqb (r + 1) 0 (λ e. omega arith))
+
+-- only done has the number 0
+done-if-zero : (a : Answer) → answerNumber a ≡ 0 → a ≡ Done
+done-if-zero Done e = refl
+done-if-zero OutOfRange e = absurd (omega arith)
+done-if-zero Off e = absurd (omega arith)
+done-if-zero Late e = absurd (omega arith)
+done-if-zero Seen e = absurd (omega arith)
+done-if-zero Early e = absurd (omega arith)
+done-if-zero Over e = absurd (omega arith)
+done-if-zero Full e = absurd (omega arith)
+done-if-zero NoRoom e = absurd (omega arith)
+done-if-zero (Cut p) e = absurd (omega arith)
+done-if-zero Nothing e = absurd (omega arith)
+done-if-zero LinkFull e = absurd (omega arith)
+done-if-zero NoMessage e = absurd (omega arith)
+done-if-zero NotOldest e = absurd (omega arith)
+
+pub not-lasting : (a : Answer) → (a ≡ Done → ⊥) → eqb (answerNumber a) 0 ≡ false
+not-lasting a not = ne-eqb (answerNumber a) 0 (λ e. not (done-if-zero a e))
 
 no-cut : (p : CutPoint) → Cut p ≡ Done → ⊥
 no-cut p e = let z : _≡_ {A = ℕ} 0 1 = cc in omega arith
@@ -237,8 +258,8 @@ module _ (m : Medium) (r : ℕ) (b : List ℕ) (s : Sound m) (l : r < rowCount) 
           subst (λ k. Went m k r b a) (sym (is ∙ cut-first m r 1 b 0 (markPage (r + 1)) in-one in-zero on h))
           (went-one a h (e ∙ answer-first m r 1 b 0 (markPage (r + 1)) in-one in-zero on h))
 
-  lasting : writeBothAnswer m r 1 b 0 ≡ Done → 2 ≤ m .left
-  lasting e = ⊎-elim
+  two-lasted : writeBothAnswer m r 1 b 0 ≡ Done → 2 ≤ m .left
+  two-lasted e = ⊎-elim
       (λ h. absurd (no-cut _ (sym (answer-second m r 1 b 0 (markPage (r + 1)) in-one in-zero on h) ∙ e)))
       (⊎-elim (λ g. let h : m .left ≡ 0 = omega arith in absurd (no-cut _ (sym (answer-first m r 1 b 0 (markPage (r + 1)) in-one in-zero on h) ∙ e))) (λ h. h))
       (cases-order (m .left) 1)
@@ -249,7 +270,7 @@ module _ (m : Medium) (r : ℕ) (b : List ℕ) (s : Sound m) (l : r < rowCount) 
   went-on k n a isk done isn e = ⊎-elim fourth (⊎-elim third rest) (cases-order (m .left) 3)
     where
       two-left : 2 ≤ m .left
-      two-left = lasting done
+      two-left = two-lasted done
 
       at : k ≡ card-two
       at = isk ∙ done-both m r 1 b 0 (markPage (r + 1)) in-one in-zero on two-left
@@ -278,3 +299,14 @@ module _ (m : Medium) (r : ℕ) (b : List ℕ) (s : Sound m) (l : r < rowCount) 
           let g : 2 ≤ card-two .left = omega arith in
           subst (λ x. Went m x r b a) (sym (is ∙ done-both card-two r (home r) b 0 (markPage 0) in-home in-zero-two on g))
           (went-done a h (answered ∙ answer-done card-two r (home r) b 0 (markPage 0) in-home in-zero-two on g))
+
+  pub went : (n : Medium) (a : Answer) → Journals m n r b a → Went m n r b a
+  went n a did = ⊎-elim done begun-only (cases-bool (lasting m r b))
+    where
+      done : lasting m r b ≡ true → Went m n r b a
+      done t = went-on (begun m r b) n a refl (done-if-zero (begunAnswer m r b) (eqb-true (answerNumber (begunAnswer m r b)) 0 t)) (did .card ∙ cond-true _ _ _ t) (did .answer ∙ cond-true _ _ _ t)
+
+      begun-only : lasting m r b ≡ false → Went m n r b a
+      begun-only f =
+          let is = did .answer ∙ cond-false _ _ _ f in
+          went-begun n a (did .card ∙ cond-false _ _ _ f) is (λ e. both-ways (lasting m r b) f (ap (λ x. eqb (answerNumber x) 0) (sym is ∙ e)))

@@ -5,6 +5,7 @@ use mathlib.Core.Bool.{Bool, true, false, cond, _&&_}
 use mathlib.Core.List.{List, []}
 use lib.ListN.{length, getD, set, replicate}
 use lib.Dec.{leb, eqb}
+use Rattle.model.specs.Answers.{answerNumber}
 use Rattle.model.specs.Limits.{pageBytes}
 use Rattle.model.specs.Power.{Power}
 use Rattle.model.specs.Store.{Stored, rowFits, restartFits}
@@ -71,6 +72,26 @@ owedAfterMending owed tear n = cond (leb owed n) 0 (cond (eqb n 0) 2 (cond (eqb 
 
 abbrev pub owedAfterRestart : Stored → ℕ → ℕ → List ℕ → ℕ
 owedAfterRestart s n tear junk = cond (restartFits tear junk) (owedAfterMending (s .power .owed) tear n) (s .power .owed)
+
+-- what a commit writes: page 1 and the mark, and then, if power lasts, the home and no mark
+abbrev pub begun : Medium → ℕ → List ℕ → Medium
+begun m r bytes = writtenBoth m 1 bytes 0 (markPage (r + 1))
+
+abbrev pub begunAnswer : Medium → ℕ → List ℕ → Answer
+begunAnswer m r bytes = writeBothAnswer m r 1 bytes 0
+
+abbrev pub lasting : Medium → ℕ → List ℕ → Bool
+lasting m r bytes = eqb (answerNumber (begunAnswer m r bytes)) 0
+
+abbrev pub journalled : Medium → ℕ → List ℕ → Medium
+journalled m r bytes = cond (lasting m r bytes) (writtenBoth (begun m r bytes) (home r) bytes 0 (markPage 0)) (begun m r bytes)
+
+abbrev pub journalAnswer : Medium → ℕ → List ℕ → Answer
+journalAnswer m r bytes = cond (lasting m r bytes) (writeBothAnswer (begun m r bytes) r (home r) bytes 0) (begunAnswer m r bytes)
+
+pub record Journals (m n : Medium) (r : ℕ) (bytes : List ℕ) (a : Answer) : Type 0 where
+  pub card : n ≡ journalled m r bytes
+  pub answer : a ≡ journalAnswer m r bytes
 
 -- what a restart does to a card that is on: the journal goes home, and the mark is taken away
 abbrev pub mended : Medium → Medium

@@ -11,7 +11,7 @@ ghost use Rattle.model.specs.Answers.{refusal};
 ghost use Rattle.model.specs.declared.answer.Answer.the-variants.{OutOfRange};
 ghost use Rattle.stores.specs.Cards.{medium};
 ghost use Rattle.stores.specs.Promises.{Commits, Restarts};
-ghost use Rattle.journal.specs.Layout.{mark, markPage, Mends, meaning, commitCutAt, restartCutAt, owedAfterCommit, owedAfterRestart, Sound, Formatted};
+ghost use Rattle.journal.specs.Layout.{home, mark, markPage, Journals, Mends, meaning, commitCutAt, restartCutAt, owedAfterCommit, owedAfterRestart, Sound, Formatted};
 use model::Answer;
 use stores::Card;
 use stores::Page;
@@ -38,6 +38,14 @@ fn mark_page(mark: u8) -> Page
     page
 }
 
+// The page where a row is at home.
+fn home_page(row: u8) -> u8
+    requires { ⌜ row < 33 ⌝ }
+    ensures { λ r. ⌜ r ≡ home row ⌝ }
+{
+    2 + row
+}
+
 impl Journal {
     // Makes a new store of a card, every byte zero; a card of another size comes back as it was.
     pub fn format(card: Card) -> Result<Journal, Unfit>
@@ -48,6 +56,18 @@ impl Journal {
             return Err(Unfit { answer, card });
         }
         Ok(Journal { card: card.wiped() })
+    }
+
+    // Writes the journal and the mark, and then the home and no mark.
+    fn write_row(&mut self, row: u8, page: &Page) -> Answer
+        requires { ⌜ row < 33 ⌝ }
+        ensures { λ r. ⌜ Journals (medium (now (self .entry) .card)) (medium (now (self .exit) .card)) row (now (page .entry)) r ⌝ }
+    {
+        match self.card.write_both(row, 1, page, 0, &mark_page(row + 1)) {
+            Answer::Done => self.card
+                .write_both(row, home_page(row), page, 0, &mark_page(0)),
+            answer => answer,
+        }
     }
 
     // Finishes the commit that page 1 stands for, if there is one.
@@ -66,7 +86,8 @@ impl Journal {
         }
         let bytes = *journal;
         let row = mark - 1;
-        self.card.write_both(row, 2 + row, &bytes, 0, &mark_page(0))
+        self.card
+            .write_both(row, home_page(row), &bytes, 0, &mark_page(0))
     }
 }
 
@@ -107,7 +128,7 @@ pub impl Store for Journal as JournalStore {
         if !self.is_on() {
             return Answer::Off;
         }
-        let Some(page) = self.card.page(2 + row as u8) else {
+        let Some(page) = self.card.page(home_page(row as u8)) else {
             return Answer::OutOfRange;
         };
         out.copy_from_slice(page);
@@ -128,11 +149,7 @@ pub impl Store for Journal as JournalStore {
         if !self.is_on() {
             return Answer::Off;
         }
-        let row = row as u8;
-        match self.card.write_both(row, 1, page, 0, &mark_page(row + 1)) {
-            Answer::Done => self.card.write_both(row, 2 + row, page, 0, &mark_page(0)),
-            answer => answer,
-        }
+        self.write_row(row as u8, page)
     }
 
     fn restart(&mut self, left: u32, tear: u8, junk: &[u8]) -> Answer

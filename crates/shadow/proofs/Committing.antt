@@ -14,19 +14,15 @@ use Rattle.model.specs.Power.{Power, commitAnswer, renewed, spent}
 use Rattle.model.specs.Store.{Stored}
 use Rattle.model.specs.declared.answer.Answer.{Answer}
 use Rattle.model.specs.declared.answer.Answer.the-variants.{Done, Cut}
-use Rattle.stores.specs.Cards.{Medium, cutAt, landed, writtenBoth, writeBothAnswer}
+use Rattle.stores.specs.Cards.{Medium, cutAt, landed, writeBothAnswer}
 use Rattle.stores.specs.Rows.{rowsBy}
 use Rattle.stores.specs.Promises.{Commits}
 use Rattle.stores.proofs.Judging.{commits-on, row-fits}
 use Rattle.stores.proofs.Rows.{same-stored, length-rows}
 use Rattle.stores.proofs.Failing.{torn, tornAt, torn-zero}
 use Rattle.stores.proofs.Writing.{cut-first, cut-second, done-both, answer-first, answer-second, answer-done}
-use Rattle.shadow.specs.Layout.{rowCount, pageCount, Sound, meaning, commitCutAt, flag, slot, otherPage, switched, rowIn}
+use Rattle.shadow.specs.Layout.{rowCount, pageCount, Sound, meaning, commitCutAt, switching, Switches, otherPage, switched, rowIn}
 use Rattle.shadow.proofs.Switching.{slot-written, page-switched, slot-sound, switch-sound}
-
--- the card after a commit that was not refused
-abbrev pub after : Medium → ℕ → List ℕ → Medium
-after m r bytes = writtenBoth m (otherPage (m .pages) r) bytes 0 (switched (m .pages) r)
 
 abbrev pub meant : Medium → ℕ → List ℕ → Stored
 meant m r bytes = record {
@@ -36,8 +32,8 @@ meant m r bytes = record {
 
 pub record Went (m : Medium) (r : ℕ) (bytes : List ℕ) : Type 0 where
   pub answer : writeBothAnswer m r (otherPage (m .pages) r) bytes 0 ≡ commitAnswer 2 (commitCutAt m r) (meaning m .power)
-  pub means : meaning (after m r bytes) ≡ meant m r bytes
-  pub sound : Sound (after m r bytes)
+  pub means : meaning (switching m r bytes) ≡ meant m r bytes
+  pub sound : Sound (switching m r bytes)
 
 module _ (m : Medium) (r : ℕ) (bytes : List ℕ) (s : Sound m) (l : r < rowCount) (on : m .on ≡ true) where
   in-card : otherPage (m .pages) r < length (m .pages)
@@ -57,7 +53,7 @@ module _ (m : Medium) (r : ℕ) (bytes : List ℕ) (s : Sound m) (l : r < rowCou
             ∙ ap (λ p. Cut (cutAt m r p)) (sym page) ∙ sym (cond-false _ _ _ short);
         means = ap meaning e ∙ same-stored _ _ _ _ _ _ (m .tear) (m .tear) 0
             (slot-written (m .pages) r (torn m (otherPage (m .pages) r) bytes) ∙ sym (cond-false _ _ _ old)) (sym short) (omega arith) refl;
-        sound = slot-sound m (after m r bytes) r (torn m (otherPage (m .pages) r) bytes) s (ap (λ (x : Medium). x .pages) e);
+        sound = slot-sound m (switching m r bytes) r (torn m (otherPage (m .pages) r) bytes) s (ap (λ (x : Medium). x .pages) e);
       }
 
   abbrev middle : Medium
@@ -74,7 +70,7 @@ module _ (m : Medium) (r : ℕ) (bytes : List ℕ) (s : Sound m) (l : r < rowCou
   switched-same = ap (λ (p : List ℕ). set p r (1 - getD p r 0)) first-same
 
   module _ (h : m .left ≡ 1) where
-    cut : after m r bytes ≡ tornAt middle 0 (switched (m .pages) r)
+    cut : switching m r bytes ≡ tornAt middle 0 (switched (m .pages) r)
     cut = cut-second m r (otherPage (m .pages) r) bytes 0 (switched (m .pages) r) in-card zero-in-card on h
 
     short : leb 2 (m .left) ≡ false
@@ -91,13 +87,13 @@ module _ (m : Medium) (r : ℕ) (bytes : List ℕ) (s : Sound m) (l : r < rowCou
     went-new t =
         let is : torn middle 0 (switched (m .pages) r) ≡ switched (m .pages) r = torn-zero middle (switched (m .pages) r) ∙ cond-true _ _ _ t in
         let new : renewed 2 (meaning m .power) ≡ true = or-right (leb 2 (m .left)) _ (and-from _ _ (eq-eqb (m .left + 1) 2 (omega arith)) t) in
-        let pages : after m r bytes .pages ≡ set (middle .pages) 0 (switched (m .pages) r) = ap (λ (x : Medium). x .pages) cut ∙ ap (set (middle .pages) 0) is in
+        let pages : switching m r bytes .pages ≡ set (middle .pages) 0 (switched (m .pages) r) = ap (λ (x : Medium). x .pages) cut ∙ ap (set (middle .pages) 0) is in
         record {
           answer = answered;
           means = ap meaning cut ∙ same-stored _ _ _ _ _ _ (m .tear) (m .tear) 0
               (ap (λ p. rowsBy (rowIn (set (middle .pages) 0 p)) rowCount) is ∙ page-switched (m .pages) r bytes l (s .sized) (s .wide) ∙ sym (cond-true _ _ _ new))
               (sym short) (omega arith) refl;
-          sound = switch-sound middle (after m r bytes) r middle-sound l (pages ∙ ap (set (middle .pages) 0) (sym switched-same));
+          sound = switch-sound middle (switching m r bytes) r middle-sound l (pages ∙ ap (set (middle .pages) 0) (sym switched-same));
         }
 
     -- page 0 is old
@@ -111,7 +107,7 @@ module _ (m : Medium) (r : ℕ) (bytes : List ℕ) (s : Sound m) (l : r < rowCou
           means = ap meaning cut ∙ same-stored _ _ _ _ _ _ (m .tear) (m .tear) 0
               (ap (λ p. rowsBy (rowIn p) rowCount) same ∙ slot-written (m .pages) r bytes ∙ sym (cond-false _ _ _ old))
               (sym short) (omega arith) refl;
-          sound = slot-sound m (after m r bytes) r bytes s (ap (λ (x : Medium). x .pages) cut ∙ same);
+          sound = slot-sound m (switching m r bytes) r bytes s (ap (λ (x : Medium). x .pages) cut ∙ same);
         }
 
     went-second : Went m r bytes
@@ -125,29 +121,19 @@ module _ (m : Medium) (r : ℕ) (bytes : List ℕ) (s : Sound m) (l : r < rowCou
         answer = answer-done m r (otherPage (m .pages) r) bytes 0 (switched (m .pages) r) in-card zero-in-card on h ∙ sym (cond-true _ _ _ long);
         means = ap meaning e ∙ same-stored _ _ _ _ _ _ (m .tear) (m .tear) 0
             (page-switched (m .pages) r bytes l (s .sized) (s .wide) ∙ sym (cond-true _ _ _ (or-left _ _ long))) (on ∙ sym long) (omega arith) refl;
-        sound = switch-sound middle (after m r bytes) r middle-sound l (ap (λ (x : Medium). x .pages) e ∙ ap (set (middle .pages) 0) (sym switched-same));
+        sound = switch-sound middle (switching m r bytes) r middle-sound l (ap (λ (x : Medium). x .pages) e ∙ ap (set (middle .pages) 0) (sym switched-same));
       }
 
   pub went : Went m r bytes
   went = ⊎-elim went-second (⊎-elim (λ h. went-first (omega arith)) (λ h. went-done (omega arith))) (cases-order (m .left) 1)
 
--- the code's commit, by what it read and wrote
-pub commit-went : (m n : Medium) (row : ℕ) (flags page bytes : List ℕ) (other spot : ℕ) (r : Answer) →
-    flags ≡ getD (m .pages) 0 [] → other ≡ 1 - getD flags row 0 → spot ≡ slot row other → page ≡ bytes →
-    n ≡ writtenBoth m spot page 0 (set flags row other) → r ≡ writeBothAnswer m row spot page 0 →
-    row < rowCount → length bytes ≡ pageBytes → m .on ≡ true → Sound m →
-    Commits (Sound n) 2 2 (commitCutAt m row) (meaning m) (meaning n) row bytes r × (r ≡ commitAnswer 2 (commitCutAt m row) (meaning m .power))
-commit-went m n row flags page bytes other spot r ef eo es eb en er l w on s =
-    let o : other ≡ 1 - flag (m .pages) row = eo ∙ ap (λ (p : List ℕ). 1 - getD p row 0) ef in
-    let p : spot ≡ otherPage (m .pages) row = es ∙ ap (slot row) o in
-    let f : set flags row other ≡ switched (m .pages) row = ap (λ (x : List ℕ). set x row other) ef ∙ ap (set (getD (m .pages) 0 []) row) o in
+-- the store's promise, from what was written
+pub commit-went : (m n : Medium) (row : ℕ) (bytes : List ℕ) (a : Answer) → row < rowCount → length bytes ≡ pageBytes → m .on ≡ true → Sound m → Switches m n row bytes a →
+    Commits (Sound n) 2 2 (commitCutAt m row) (meaning m) (meaning n) row bytes a × (a ≡ commitAnswer 2 (commitCutAt m row) (meaning m .power))
+commit-went m n row bytes a l w on s did =
     let g = went m row bytes s l on in
-    let is : n ≡ after m row bytes = en ∙ ap (λ i. writtenBoth m i page 0 (set flags row other)) p ∙ ap (λ b. writtenBoth m (otherPage (m .pages) row) b 0 (set flags row other)) eb
-    ∙ ap (writtenBoth m (otherPage (m .pages) row) bytes 0) f in
-    let a : r ≡ commitAnswer 2 (commitCutAt m row) (meaning m .power) =
-    er ∙ ap (λ i. writeBothAnswer m row i page 0) p ∙ ap (λ b. writeBothAnswer m row (otherPage (m .pages) row) b 0) eb ∙ g .answer in
-    let fits : Sound n = subst Sound (sym is) (g .sound) in (
-      commits-on fits 2 2 (commitCutAt m row) (meaning m) row bytes (meaning n) r
-          (row-fits (meaning m) rowCount row bytes (length-rows (rowIn (m .pages)) rowCount) l w) on a (ap meaning is ∙ g .means),
-      a,
+    let answered = did .answer ∙ g .answer in (
+      commits-on (subst Sound (sym (did .card)) (g .sound)) 2 2 (commitCutAt m row) (meaning m) row bytes (meaning n) a
+          (row-fits (meaning m) rowCount row bytes (length-rows (rowIn (m .pages)) rowCount) l w) on answered (ap meaning (did .card) ∙ g .means),
+      answered,
     )

@@ -7,8 +7,9 @@ use lib.ListN.{length, getD, set, replicate}
 use lib.Dec.{eqb}
 use Rattle.model.specs.Limits.{pageBytes}
 use Rattle.model.specs.Store.{Stored}
+use Rattle.model.specs.declared.answer.Answer.{Answer}
 use Rattle.model.specs.declared.answer.CutPoint.{CutPoint}
-use Rattle.stores.specs.Cards.{Medium, cutAt, zeroPage, blankMedium}
+use Rattle.stores.specs.Cards.{Medium, cutAt, zeroPage, blankMedium, writtenBoth, writeBothAnswer}
 use Rattle.stores.specs.Rows.{rowsBy}
 
 abbrev pub rowCount : ℕ
@@ -45,6 +46,14 @@ meaning m = record {
   rows = rowsBy (rowIn (m .pages)) rowCount;
   power = record { on = m .on; left = m .left; tear = m .tear; owed = 0 };
 }
+
+-- what a commit writes: the other slot, and then page 0
+abbrev pub switching : Medium → ℕ → List ℕ → Medium
+switching m r bytes = writtenBoth m (otherPage (m .pages) r) bytes 0 (switched (m .pages) r)
+
+pub record Switches (m n : Medium) (r : ℕ) (bytes : List ℕ) (a : Answer) : Type 0 where
+  pub card : n ≡ switching m r bytes
+  pub answer : a ≡ writeBothAnswer m r (otherPage (m .pages) r) bytes 0
 
 -- power fails at the slot if nothing is left, else at page 0
 abbrev pub commitCutAt : Medium → ℕ → CutPoint

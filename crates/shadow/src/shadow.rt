@@ -5,12 +5,14 @@
 ghost use mathlib.Core.Path.{_≡_};
 ghost use lib.ListN.{length};
 ghost use Prim.Native.Nat.{_<_, _≤_};
+ghost use Rattle.std.specs.Options.{Cases as BySome};
 ghost use Rattle.std.specs.Results.{Cases};
 ghost use Rattle.model.specs.declared.answer.Answer.the-variants.{OutOfRange};
 ghost use Rattle.stores.specs.Cards.{medium};
-ghost use Rattle.shadow.specs.Layout.{slot, meaning, commitCutAt, restartCutAt, Sound, Formatted};
+ghost use Rattle.shadow.specs.Layout.{slot, rowIn, Switches, meaning, commitCutAt, restartCutAt, Sound, Formatted};
 use model::Answer;
 use stores::Card;
+use stores::Page;
 use stores::Store;
 use stores::Tear;
 use stores::Unfit;
@@ -37,6 +39,32 @@ impl Shadow {
             return Err(Unfit { answer, card });
         }
         Ok(Shadow { card: card.wiped() })
+    }
+
+    // The page that holds a row.
+    fn live(&self, row: usize) -> Option<&Page>
+        requires { ⌜ row < 33 ⌝ }
+        ensures { λ r. ⌜ BySome r (length (medium (now (self .entry) .card) .pages) ≡ 67 → ⊥) (λ p. now p ≡ rowIn (medium (now (self .entry) .card) .pages) row) ⌝ }
+    {
+        let Some(flags) = self.card.page(0) else {
+            return None;
+        };
+        self.card.page(slot_page(row, flags[row].min(1)))
+    }
+
+    // Writes the other slot of a row, and then page 0 with that slot live.
+    fn switch(&mut self, row: usize, page: &Page) -> Answer
+        requires { ⌜ row < 33 ⌝ }
+        ensures { λ r. ⌜ (0 < length (medium (now (self .entry) .card) .pages) → Switches (medium (now (self .entry) .card)) (medium (now (self .exit) .card)) row (now (page .entry)) r) ⌝ }
+    {
+        let Some(flags) = self.card.page(0) else {
+            return Answer::OutOfRange;
+        };
+        let mut switched = *flags;
+        let other = 1u8.saturating_sub(switched[row]);
+        switched[row] = other;
+        let spot = slot_page(row, other);
+        self.card.write_both(row as u8, spot, page, 0, &switched)
     }
 }
 
@@ -82,11 +110,7 @@ pub impl Store for Shadow as ShadowStore {
         if !self.is_on() {
             return Answer::Off;
         }
-        let Some(flags) = self.card.page(0) else {
-            return Answer::OutOfRange;
-        };
-        let live = slot_page(row, flags[row].min(1));
-        let Some(page) = self.card.page(live) else {
+        let Some(page) = self.live(row) else {
             return Answer::OutOfRange;
         };
         out.copy_from_slice(page);
@@ -103,14 +127,7 @@ pub impl Store for Shadow as ShadowStore {
         if !self.is_on() {
             return Answer::Off;
         }
-        let Some(flags) = self.card.page(0) else {
-            return Answer::OutOfRange;
-        };
-        let mut switched = *flags;
-        let other = 1u8.saturating_sub(switched[row]);
-        switched[row] = other;
-        self.card
-            .write_both(row as u8, slot_page(row, other), page, 0, &switched)
+        self.switch(row, page)
     }
 
     fn restart(&mut self, left: u32, tear: u8, junk: &[u8]) -> Answer {

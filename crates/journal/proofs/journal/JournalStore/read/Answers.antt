@@ -1,5 +1,7 @@
 -- The answers in order; then a row is at home while the store is on.
-use mathlib.Core.Path.{refl, sym, _∙_}
+use mathlib.Core.Path.{refl, sym, ap, _∙_}
+use mathlib.Core.List.{[]}
+use lib.ListN.{getD}
 use mathlib.Core.Logic.{⊎-elim}
 use Rattle.std.proofs.shelf.Tests.{false≢true}
 use Rattle.stores.specs.Cards.{medium}
@@ -38,7 +40,7 @@ returns c =
     record {
       reads = λ s. reads-done s (meaning m) (c .args .row) (c .args .out .now) (c .copy-from-slice .last .self)
           (row-fits (meaning m) rowCount (c .args .row) (c .args .out .now) n (c .if-row-ge-ROWS .left) (c .if-out-ne512 .left)) (sym (c .if-not-is-on .ensures tt))
-          (c .copy-from-slice .ensures .after ∙ c .in-Some .ensures tt ∙ sym (at-home (m .pages) (c .args .row) (s .settled (sym (c .if-not-is-on .ensures tt)))) ∙ sym (row-at (rowIn (m .pages)) rowCount (c .args .row) (c .if-row-ge-ROWS .left)));
+          (c .copy-from-slice .ensures .after ∙ c .in-Some .ensures tt ∙ ap (λ i. getD (m .pages) i []) (c .home-page .ensures) ∙ sym (at-home (m .pages) (c .args .row) (s .settled (sym (c .if-not-is-on .ensures tt)))) ∙ sym (row-at (rowIn (m .pages)) rowCount (c .args .row) (c .if-row-ge-ROWS .left)));
       cuts-stay = λ s. (refl, refl);
       refusal-changes-nothing = λ s h. absurd (false≢true h);
     }

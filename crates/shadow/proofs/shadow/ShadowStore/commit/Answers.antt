@@ -1,12 +1,13 @@
 -- The answers in order; then one lemma on the two writes.
-use mathlib.Core.Path.{refl, sym}
+use native.Mathlib.Omega.{arith}
+use mathlib.Core.Path.{refl, sym, subst}
 use lib.Dec.{leb}
 use Rattle.std.proofs.shelf.Tests.{eqb-true}
 use lib.ListN.{length}
 use Rattle.stores.specs.Cards.{medium}
 use Rattle.stores.proofs.Judging.{commits-out, commits-off, row-fits, no-row, no-refusal}
 use Rattle.stores.proofs.Rows.{length-rows}
-use Rattle.shadow.specs.Layout.{rowCount, rowIn, meaning, commitCutAt}
+use Rattle.shadow.specs.Layout.{rowCount, rowIn, Sound, Switches, meaning, commitCutAt}
 use Rattle.shadow.proofs.Committing.{commit-went}
 use Rattle.shadow.proofs.shadow.ShadowStore.commit.Needs as need
 
@@ -34,11 +35,14 @@ returns-then-not-is-on c =
 pub returns : need.returns
 returns c =
     let m = medium (c .args .self .now .card) in
-    let w = eqb-true (length (c .args .bytes .now)) 512 (c .in-Some .ensures tt .1) in
-    let all = commit-went m (medium (c .write-both .last .self)) (c .args .row) (c .in-Some-page .flags .now) (c .in-Some .page .now) (c .args .bytes .now)
-    (c .saturating-sub-other .result) (c .slot-page .result) (c .write-both .result) (c .in-Some-page .ensures tt) (c .saturating-sub-other .ensures)
-    (c .slot-page .ensures) (c .in-Some .ensures tt .0) (c .write-both .ensures .card) (c .write-both .ensures .answer) (c .if-row-ge-ROWS .left) w (sym (c .if-not-is-on .ensures tt)) in
+    let n = medium (c .switch .last .self .card) in
+    let row = c .args .row in
+    let bytes = c .args .bytes .now in
+    let a = c .switch .result in
+    let w = eqb-true (length bytes) 512 (c .in-Some .ensures tt .1) in
+    let did : Sound m → Switches m n row bytes a = λ s. subst (λ b. Switches m n row b a) (c .in-Some .ensures tt .0) (c .switch .ensures (omega (arith, s .sized))) in
+    let all = λ (s : Sound m). commit-went m n row bytes a (c .if-row-ge-ROWS .left) w (sym (c .if-not-is-on .ensures tt)) s (did s) in
     record {
       commits = λ s. all s .0;
-      refusal-changes-nothing = λ s h. absurd (no-refusal (leb 2 (m .left)) (commitCutAt m (c .args .row)) (c .write-both .result) (all s .1) h);
+      refusal-changes-nothing = λ s h. absurd (no-refusal (leb 2 (m .left)) (commitCutAt m row) a (all s .1) h);
     }

@@ -1,14 +1,11 @@
 -- The answers in order; then the live slot is the row.
-use mathlib.Core.Path.{refl, sym, ap, _∙_}
+use mathlib.Core.Path.{refl, sym, _∙_}
 use mathlib.Core.Logic.{⊎-elim}
-use mathlib.Core.List.{[]}
-use Prim.Native.Nat.{min}
-use lib.ListN.{getD}
 use Rattle.std.proofs.shelf.Tests.{false≢true}
 use Rattle.stores.specs.Cards.{medium}
 use Rattle.stores.proofs.Judging.{reads-out, reads-off, reads-done, row-fits, no-row, no-page}
 use Rattle.stores.proofs.Rows.{length-rows, row-at}
-use Rattle.shadow.specs.Layout.{rowCount, rowIn, slot, meaning}
+use Rattle.shadow.specs.Layout.{rowCount, rowIn, meaning}
 use Rattle.shadow.proofs.shadow.ShadowStore.read.Needs as need
 
 pub returns-then-row-ge-ROWS : need.returns-then-row-ge-ROWS
@@ -37,11 +34,10 @@ pub returns : need.returns
 returns c =
     let m = medium (c .args .self .now .card) in
     let n = length-rows (rowIn (m .pages)) rowCount in
-    let live = c .slot-page-live .ensures ∙ ap (slot (c .args .row)) (c .min .ensures ∙ ap (λ p. min (getD p (c .args .row) 0) 1) (c .in-Some .ensures tt)) in
     record {
       reads = λ s. reads-done s (meaning m) (c .args .row) (c .args .out .now) (c .copy-from-slice .last .self)
           (row-fits (meaning m) rowCount (c .args .row) (c .args .out .now) n (c .if-row-ge-ROWS .left) (c .if-out-ne512 .left)) (sym (c .if-not-is-on .ensures tt))
-          (c .copy-from-slice .ensures .after ∙ c .in-Some-page .ensures tt ∙ ap (λ i. getD (m .pages) i []) live ∙ sym (row-at (rowIn (m .pages)) rowCount (c .args .row) (c .if-row-ge-ROWS .left)));
+          (c .copy-from-slice .ensures .after ∙ c .in-Some .ensures tt ∙ sym (row-at (rowIn (m .pages)) rowCount (c .args .row) (c .if-row-ge-ROWS .left)));
       cuts-stay = λ s. (refl, refl);
       refusal-changes-nothing = λ s h. absurd (false≢true h);
     }
