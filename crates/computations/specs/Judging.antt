@@ -2,8 +2,11 @@
 use Prim.Native.Nat.{ℕ, _≤_, _<_, min}
 use mathlib.Core.Path.{_≡_}
 use mathlib.Core.Bool.{Bool}
+use Rattle.std.specs.Options.{Cases as BySome}
+use Rattle.std.specs.Results.{Cases as ByOk}
 use Rattle.std.specs.declared.option.Option.{Option}
 use Rattle.std.specs.declared.option.Option.the-variants.{Some}
+use Rattle.std.specs.declared.result.Result.{Result}
 use Rattle.model.specs.Limits.{lastTime}
 use Rattle.model.specs.Admission.{judged}
 use Rattle.model.specs.Computation.{Computation}
@@ -32,3 +35,10 @@ module _ {S : Type 0} (c : Computation S) (Sound : S → Type 0) where
   -- no due is reached
   abbrev pub Quiet : S → ℕ → Type 0
   Quiet s w = (d : ℕ) → c .due s ≡ Some d → min w lastTime < d
+
+  -- what is answered to a record, and what is done when a watermark is looked at
+  abbrev pub Considered : S → Bool → ℕ → Bool → Record → Result (S × Option (ℕ × ℕ)) Answer → Type 0
+  Considered s on w seen r n = ByOk n (Taken s on w seen r) (Refused s on w seen r)
+
+  abbrev pub Attended : S → ℕ → Option (S × Option (ℕ × ℕ)) → Type 0
+  Attended s w n = BySome n (Quiet s w) (Fired s w)

@@ -1,8 +1,6 @@
 // What a node does with the 32 bytes of a state, whatever the computation: take a record if it is admitted, fire a due
 // that the watermark has reached. A take and a fire happen here only when they may.
-ghost use Rattle.std.specs.Results.{Cases};
-ghost use Rattle.std.specs.Options.{Cases as BySome};
-ghost use Rattle.computations.specs.Judging.{Taken, Refused, Fired, Quiet};
+ghost use Rattle.computations.specs.Judging.{Considered, Attended};
 use super::admission::admit;
 use super::computation::Computation;
 use model::Answer;
@@ -16,7 +14,7 @@ pub fn consider<C: Computation>(
     seen: bool,
     given: &Record,
 ) -> Result<(C::State, Option<(u32, u16)>), Answer>
-    ensures { λ r. ⌜ Cases r (Taken operations sound (operations .load (now (bytes .entry))) on w seen (now (given .entry))) (Refused operations sound (operations .load (now (bytes .entry))) on w seen (now (given .entry))) ⌝ }
+    ensures { λ r. ⌜ Considered operations sound (operations .load (now (bytes .entry))) on w seen (now (given .entry)) r ⌝ }
 {
     let state = C::load(bytes);
     match admit::<C>(&state, on, w, seen, given) {
@@ -27,7 +25,7 @@ pub fn consider<C: Computation>(
 
 // The state after its due was fired and what it emits, if the watermark has reached one.
 pub fn fire_due<C: Computation>(bytes: &[u8; 32], w: u32) -> Option<(C::State, Option<(u32, u16)>)>
-    ensures { λ r. ⌜ BySome r (Quiet operations sound (operations .load (now (bytes .entry))) w) (Fired operations sound (operations .load (now (bytes .entry))) w) ⌝ }
+    ensures { λ r. ⌜ Attended operations sound (operations .load (now (bytes .entry))) w r ⌝ }
 {
     let state = C::load(bytes);
     match C::due(&state) {
