@@ -12,11 +12,13 @@ use Rattle.std.proofs.shelf.Lists.{getD-default, getD-take, getD-drop, getD-app
 use Rattle.std.proofs.shelf.Edits.{split-between, length-inserted, getD-inserted-below, getD-inserted-at, getD-inserted-above}
 use Rattle.std.proofs.shelf.Tests.{cases-bool, both-ways, cases-eq, cases-lt}
 use Rattle.std.proofs.shelf.Ways.{tells}
+use Rattle.model.specs.declared.answer.Answer.the-variants.{Done}
 use Rattle.model.specs.declared.record.Name.{Name}
 use Rattle.names.specs.declared.taken.Taken.{Taken}
-use Rattle.names.specs.Held.{Apart, sameTaken, listed}
-use Rattle.names.specs.Changes.{with-name, without-below}
-use Rattle.names.proofs.Listing.{taken, same-is, is-same, listed-append, listed-at, at-listed, all-pass, none-pass}
+use Rattle.names.specs.Held.{Apart, sameTaken, listed, mostTaken}
+use Rattle.names.specs.Changes.{with-name, Added}
+use Rattle.names.proofs.Adding.{added-done}
+use Rattle.names.proofs.Listing.{taken, same-is, is-same, listed-append, listed-at, at-listed}
 use Rattle.sorted_names.specs.Order.{first, before, Climbs, Splits, Absent}
 use Rattle.sorted_names.proofs.Ordered.{before-self, before-total, before-trans}
 
@@ -152,3 +154,9 @@ splits-lent {xs} {ys} {p} {q} {i} e f h = subst (λ zs. Climbs zs → Splits zs 
 
 pub absent-lent : {xs ys : List Taken} {s : ℕ} {n : Name} {i : ℕ} → ys ≡ xs → (Climbs ys → Absent ys s n i) → Climbs xs → Absent xs s n i
 absent-lent {xs} {ys} {s} {n} {i} e h = subst (λ zs. Climbs zs → Absent zs s n i) e h
+
+-- the table after a name has gone in at its place
+pub put-in : {xs ys : List Taken} {i s count after : ℕ} {n : Name} → Climbs xs → Absent xs s n i → ys ≡ inserted xs i (taken s n) → count < mostTaken → after ≡ count + 1 → Added (Climbs ys) (record { holds = listed xs; size = count }) s n Done (record { holds = listed ys; size = after })
+put-in {xs} {ys} {i} {s} {count} {after} {n} up away e few one =
+    added-done (record { holds = listed xs; size = count }) (record { holds = listed ys; size = after }) s n
+    (subst Climbs (sym e) (climbs-inserted xs i s n up away)) (away .none) few (ap listed e ∙ listed-inserted xs i s n) one
