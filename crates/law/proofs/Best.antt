@@ -25,7 +25,10 @@ less s n h ne = omega arith
 
 module _ {X : Type 0} (beats : X → X → Bool) (at : ℕ → Option X) where
   -- what was found stands where it was found
-  found-step : (n : ℕ) (o : Option (ℕ × X)) (e : Option X) → at n ≡ e → ((x : ℕ × X) → o ≡ Some x → (x .0 < n) × (at (x .0) ≡ Some (x .1))) → (x : ℕ × X) → better beats o n e ≡ Some x → (x .0 < suc n) × (at (x .0) ≡ Some (x .1))
+  found-step
+      : (n : ℕ) (o : Option (ℕ × X)) (e : Option X)
+      → at n ≡ e → ((x : ℕ × X) → o ≡ Some x → (x .0 < n) × (at (x .0) ≡ Some (x .1))) → (x : ℕ × X) → better beats o n e ≡ Some x
+      → (x .0 < suc n) × (at (x .0) ≡ Some (x .1))
   found-step n o None h f x k = let y = f x k in (omega (arith, y .0), y .1)
   found-step n None (Some v) h f x k =
       let same : x ≡ (n, v) = cc in
@@ -73,7 +76,9 @@ module _ {X : Type 0} (beats : X → X → Bool) (at : ℕ → Option X) where
     where
       none : s < 0 → ⊥
       none k = omega arith
-  best-found (suc n) s x h b = elim (cases-eq s n) [ inl e ↦ here e | inr ne ↦ there (less s n h ne) (best-found n s x (less s n h ne) below) (at n) refl ]
+  best-found (suc n) s x h b = elim (cases-eq s n)
+      [ inl e ↦ here e
+      | inr ne ↦ there (less s n h ne) (best-found n s x (less s n h ne) below) (at n) refl ]
     where
       below : Best s x n
       below = record { stands = b .stands; before = b .before; after = λ q y l k e. b .after q y l (omega arith) e }
@@ -81,12 +86,17 @@ module _ {X : Type 0} (beats : X → X → Bool) (at : ℕ → Option X) where
       here : s ≡ n → firstBest beats at (suc n) ≡ Some (s, x)
       here e = subst (λ m. Best s x (suc m) → firstBest beats at (suc m) ≡ Some (s, x)) e (λ k. last-best s x k) b
 
-      there : s < n → firstBest beats at n ≡ Some (s, x) → (o : Option X) → at n ≡ o → better beats (firstBest beats at n) n o ≡ Some (s, x)
+      there
+          : s < n → firstBest beats at n ≡ Some (s, x) → (o : Option X) → at n ≡ o
+          → better beats (firstBest beats at n) n o ≡ Some (s, x)
       there l f None e = f
       there l f (Some y) e =
-          ap (λ (k : Option (ℕ × X)). better beats k n (Some y)) f ∙ ap (λ t. cond t (Some (n, y)) (Some (s, x))) (b .after n y (omega arith) (omega arith) e)
+          ap (λ (k : Option (ℕ × X)). better beats k n (Some y)) f ∙
+          ap (λ t. cond t (Some (n, y)) (Some (s, x))) (b .after n y (omega arith) (omega arith) e)
 
-pub earliest-due : (c : Computation (List ℕ)) (rows : ℕ → Row) (x : ℕ × ℕ) → earliest c rows ≡ Some x → (x .0 < stops) × (c .due (rows (x .0) .state) ≡ Some (x .1))
+pub earliest-due
+    : (c : Computation (List ℕ)) (rows : ℕ → Row) (x : ℕ × ℕ)
+    → earliest c rows ≡ Some x → (x .0 < stops) × (c .due (rows (x .0) .state) ≡ Some (x .1))
 earliest-due c rows x e = found (λ d e. ltb d e) (λ s. c .due (rows s .state)) stops x e
 
 -- a due that no other is before, and that no lower stop shares, is the earliest
@@ -95,8 +105,12 @@ earliest-is c rows s t f =
     best-found (λ d e. ltb d e) (λ q. c .due (rows q .state)) stops s t (f .stop)
     (record {
       stands = f .due;
-      before = λ q y l e. elim (f .first q y (under q l (f .stop)) e) [ inl lt ↦ lt-ltb t y lt | inr same ↦ absurd (wrong q (same .1) l) ];
-      after = λ q y l k e. elim (f .first q y k e) [ inl lt ↦ le-ltb y t (omega arith) | inr same ↦ le-ltb y t (omega (arith, same .0)) ];
+      before = λ q y l e. elim (f .first q y (under q l (f .stop)) e)
+          [ inl lt ↦ lt-ltb t y lt
+          | inr same ↦ absurd (wrong q (same .1) l) ];
+      after = λ q y l k e. elim (f .first q y k e)
+          [ inl lt ↦ le-ltb y t (omega arith)
+          | inr same ↦ le-ltb y t (omega (arith, same .0)) ];
     })
   where
     wrong : (q : ℕ) → s ≤ q → q < s → ⊥
@@ -105,7 +119,9 @@ earliest-is c rows s t f =
     under : (q : ℕ) → q < s → s < stops → q < stops
     under q a b = omega arith
 
-pub none-due : (c : Computation (List ℕ)) (rows : ℕ → Row) → ((q : ℕ) → q < stops → c .due (rows q .state) ≡ None) → earliest c rows ≡ None
+pub none-due
+    : (c : Computation (List ℕ)) (rows : ℕ → Row)
+    → ((q : ℕ) → q < stops → c .due (rows q .state) ≡ None) → earliest c rows ≡ None
 none-due c rows f = none-found (λ d e. ltb d e) (λ q. c .due (rows q .state)) stops f
 
 -- a production whose amount no other exceeds, and that no lower stop shares, is the greatest
@@ -114,8 +130,12 @@ greatest-is rows s x f =
     best-found (λ p q. ltb (q .amount) (p .amount)) (λ q. oldest (rows q .pending)) stops s x (f .stop)
     (record {
       stands = f .oldest-is;
-      before = λ q y l e. elim (f .greatest-is q y (under q l (f .stop)) e) [ inl lt ↦ lt-ltb (y .amount) (x .amount) lt | inr same ↦ absurd (wrong q (same .1) l) ];
-      after = λ q y l k e. elim (f .greatest-is q y k e) [ inl lt ↦ le-ltb (x .amount) (y .amount) (omega arith) | inr same ↦ le-ltb (x .amount) (y .amount) (omega (arith, same .0)) ];
+      before = λ q y l e. elim (f .greatest-is q y (under q l (f .stop)) e)
+          [ inl lt ↦ lt-ltb (y .amount) (x .amount) lt
+          | inr same ↦ absurd (wrong q (same .1) l) ];
+      after = λ q y l k e. elim (f .greatest-is q y k e)
+          [ inl lt ↦ le-ltb (x .amount) (y .amount) (omega arith)
+          | inr same ↦ le-ltb (x .amount) (y .amount) (omega (arith, same .0)) ];
     })
   where
     wrong : (q : ℕ) → s ≤ q → q < s → ⊥
@@ -146,15 +166,22 @@ low-due b w None h u = h
 low-due b w (Some d) h u = omega arith
 
 module _ (c : Computation (List ℕ)) (rows : ℕ → Row) (w b : ℕ) where
-  lows-more : (n low : ℕ) → b ≤ leastDue (c .due (rows n .state)) (leastTime (rows n .pending) low) → (b ≤ low → Lows c rows w b n) → Lows c rows w b (suc n)
+  lows-more
+      : (n low : ℕ)
+      → b ≤ leastDue (c .due (rows n .state)) (leastTime (rows n .pending) low) → (b ≤ low → Lows c rows w b n)
+      → Lows c rows w b (suc n)
   lows-more n low h below =
       let due = due-low b (leastTime (rows n .pending) low) (c .due (rows n .state)) h in
       let times = times-low b low (rows n .pending) (due .0) in
       let rest = below (times .0) in
       record {
         watermark = rest .watermark;
-        pending = λ s l p m. elim (cases-eq s n) [ inl e ↦ times .1 p (subst (λ k. Mem p (rows k .pending)) e m) | inr ne ↦ rest .pending s (less s n l ne) p m ];
-        dues = λ s l. elim (cases-eq s n) [ inl e ↦ subst (λ k. Upto b (c .due (rows k .state))) (sym e) (due .1) | inr ne ↦ rest .dues s (less s n l ne) ];
+        pending = λ s l p m. elim (cases-eq s n)
+            [ inl e ↦ times .1 p (subst (λ k. Mem p (rows k .pending)) e m)
+            | inr ne ↦ rest .pending s (less s n l ne) p m ];
+        dues = λ s l. elim (cases-eq s n)
+            [ inl e ↦ subst (λ k. Upto b (c .due (rows k .state))) (sym e) (due .1)
+            | inr ne ↦ rest .dues s (less s n l ne) ];
       }
 
   lows-below : (n : ℕ) → b ≤ lowBelow c rows w n → Lows c rows w b n

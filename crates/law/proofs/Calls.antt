@@ -50,12 +50,18 @@ module _ (kits : Kits) (ck : Keeps (kits .collector)) (sk : Keeps (kits .spotter
   After deed r = Moves (nextWorld kits es p deed r)
 
   -- only the link has changed
-  relinked : (link : List Message) → ((m : Message) → Mem m link → Mem m (p .link) ⊎ News (laneOf kits es p) m) → Moves (grown kits es p (p .collector .row) (p .spotter .row) [] (λ s. []) (λ s. []) (p .collector .w) (p .spotter .w) link)
+  relinked
+      : (link : List Message)
+      → ((m : Message) → Mem m link → Mem m (p .link) ⊎ News (laneOf kits es p) m)
+      → Moves (grown kits es p (p .collector .row) (p .spotter .row) [] (λ s. []) (λ s. []) (p .collector .w) (p .spotter .w) link)
   relinked link linked =
       still (same-grown kits es p (p .collector .row) (p .spotter .row) [] (λ s. []) (λ s. []) (p .collector .w) (p .spotter .w) link (λ s. refl) (λ s. refl) refl (λ s. refl) (λ s. refl)) refl refl
       (λ m k. elim (linked m k) [ inl old ↦ inl old | inr new ↦ inr (news m new) ])
     where
-      news : (m : Message) → News (laneOf kits es p) m → News (grown kits es p (p .collector .row) (p .spotter .row) [] (λ s. []) (λ s. []) (p .collector .w) (p .spotter .w) link .lane) m
+      news
+          : (m : Message)
+          → News (laneOf kits es p) m
+          → News (grown kits es p (p .collector .row) (p .spotter .row) [] (λ s. []) (λ s. []) (p .collector .w) (p .spotter .w) link .lane) m
       news (Produced s x) n = n
       news (Acknowledged s n) x = x
 
@@ -63,9 +69,15 @@ module _ (kits : Kits) (ck : Keeps (kits .collector)) (sk : Keeps (kits .spotter
   none = relinked (p .link) (λ m k. inl k)
 
   -- a message that was there, or is news, joins the link
-  joined : (x : Message) → (Mem x (p .link) ⊎ News (laneOf kits es p) x) → (m : Message) → Mem m (p .link ++ (x ∷ [])) → Mem m (p .link) ⊎ News (laneOf kits es p) m
+  joined
+      : (x : Message)
+      → (Mem x (p .link) ⊎ News (laneOf kits es p) x) → (m : Message) → Mem m (p .link ++ (x ∷ []))
+      → Mem m (p .link) ⊎ News (laneOf kits es p) m
   joined x f m k =
-      elim (mem-split m (p .link) (x ∷ []) k) [ inl old ↦ inl old | inr (inl e) ↦ subst (λ y. Mem y (p .link) ⊎ News (laneOf kits es p) y) (sym e) f | inr (inr b) ↦ absurd b ]
+      elim (mem-split m (p .link) (x ∷ []) k)
+      [ inl old ↦ inl old
+      | inr (inl e) ↦ subst (λ y. Mem y (p .link) ⊎ News (laneOf kits es p) y) (sym e) f
+      | inr (inr b) ↦ absurd b ]
 
   send-from-moves : (s : ℕ) (o : Option Production) → oldest (p .collector .row s .pending) ≡ o → After other (sendFrom s o p)
   send-from-moves s None e = none
@@ -89,29 +101,39 @@ module _ (kits : Kits) (ck : Keeps (kits .collector)) (sk : Keeps (kits .spotter
       (λ _. send-pending-moves (pendingStops (p .collector .row)))
       (λ _. none)
 
-  lose-moves : (place : ℕ) → After other (cond (ltb place (length (p .link))) (Plain Done, withLink (removed (p .link) place) p) (Plain NoMessage, p))
+  lose-moves
+      : (place : ℕ)
+      → After other (cond (ltb place (length (p .link))) (Plain Done, withLink (removed (p .link) place) p) (Plain NoMessage, p))
   lose-moves place =
-      cond-both (ltb place (length (p .link))) (Plain Done, withLink (removed (p .link) place) p) (Plain NoMessage, p) (After other)
+      cond-both
+      (ltb place (length (p .link))) (Plain Done, withLink (removed (p .link) place) p) (Plain NoMessage, p) (After other)
       (λ _. relinked (removed (p .link) place) (λ m k. inl (mem-removed m (p .link) place k)))
       (λ _. none)
 
   repeat-moves : (place : ℕ) (o : Option Message) → nth (p .link) place ≡ o → After other (repeatOf o p)
   repeat-moves place None e = none
   repeat-moves place (Some m) e =
-      cond-both (leb mostMessages (length (p .link))) (Plain LinkFull, p) (Plain Done, withLink (p .link ++ (m ∷ [])) p) (After other)
+      cond-both
+      (leb mostMessages (length (p .link))) (Plain LinkFull, p) (Plain Done, withLink (p .link ++ (m ∷ [])) p) (After other)
       (λ _. none)
       (λ _. relinked (p .link ++ (m ∷ [])) (joined m (inl (nth-mem m (p .link) place e))))
 
-  deliver-moves : (free : Free) (place : ℕ) (o : Option Message) → nth (p .link) place ≡ o → After (arrival o) (deliverOf kits free place o p)
+  deliver-moves
+      : (free : Free) (place : ℕ) (o : Option Message)
+      → nth (p .link) place ≡ o → After (arrival o) (deliverOf kits free place o p)
   deliver-moves free place None e = none
   deliver-moves free place (Some (Produced s x)) e =
       let rest = removed (p .link) place in
-      cond-both (p .spotter .power .on) (arrives s (x .serial) rest (handIn (kits .spotter) free (asRecord s x) (p .spotter)) p) (Plain Off, p) (After (Deed.lands s x))
+      cond-both
+      (p .spotter .power .on) (arrives s (x .serial) rest (handIn (kits .spotter) free (asRecord s x) (p .spotter)) p)
+      (Plain Off, p) (After (Deed.lands s x))
       (λ _. land-moves kits sk es p free s x rest (nth-mem (Produced s x) (p .link) place e) (λ m k. mem-removed m (p .link) place k))
       (λ _. none)
   deliver-moves free place (Some (Acknowledged s n)) e =
       let rest = removed (p .link) place in
-      cond-both (p .collector .power .on) (atCollector (clear (kits .collector) free s n (p .collector)) (withLink rest p)) (Plain Off, p) (After other)
+      cond-both
+      (p .collector .power .on) (atCollector (clear (kits .collector) free s n (p .collector)) (withLink rest p)) (Plain Off, p)
+      (After other)
       (λ _. acknowledge-moves kits ck es p free s n rest (nth-mem (Acknowledged s n) (p .link) place e) (λ m k. mem-removed m (p .link) place k))
       (λ _. none)
 
@@ -123,7 +145,10 @@ module _ (kits : Kits) (ck : Keeps (kits .collector)) (sk : Keeps (kits .spotter
       (λ _. none)
 
   -- a restart leaves the rows
-  restart-moves : (free : Free) (left tear : ℕ) (junk : List ℕ) (r : Outcome × Pair) → (r ≡ atCollector (restart free left tear junk (p .collector)) p) ⊎ (r ≡ atSpotter (restart free left tear junk (p .spotter)) p) → After other r
+  restart-moves
+      : (free : Free) (left tear : ℕ) (junk : List ℕ) (r : Outcome × Pair)
+      → (r ≡ atCollector (restart free left tear junk (p .collector)) p) ⊎ (r ≡ atSpotter (restart free left tear junk (p .spotter)) p)
+      → After other r
   restart-moves free left tear junk r (inl e) =
       subst (After other) (sym e)
       (cond-both (leb tear 2 && eqb (length junk) pageBytes)
@@ -135,7 +160,10 @@ module _ (kits : Kits) (ck : Keeps (kits .collector)) (sk : Keeps (kits .spotter
       (restartAnswer left (free .wake) (p .spotter .power), record { row = p .spotter .row; w = p .spotter .w; power = restarted left tear (free .owed) (p .spotter .power); queue = pendingStops (p .spotter .row) })
       (OutOfRange, p .spotter) (λ y. After other (atSpotter y p)) (λ _. none) (λ _. none))
 
-  node-moves : (node : ℕ) (first second : Outcome × Pair) (deed : Bool → Deed) → After (deed true) first → After (deed false) second → After (deed true) (Plain OutOfRange, p) → After (deed false) (Plain OutOfRange, p) → After (deed (eqb node 0)) (atNode node first second p)
+  node-moves
+      : (node : ℕ) (first second : Outcome × Pair) (deed : Bool → Deed)
+      → After (deed true) first → After (deed false) second → After (deed true) (Plain OutOfRange, p)
+      → After (deed false) (Plain OutOfRange, p) → After (deed (eqb node 0)) (atNode node first second p)
   node-moves node first second deed a b x y = at (eqb node 0)
     where
       at : (t : Bool) → After (deed t) (cond (leb node 1) (cond t first second) (Plain OutOfRange, p))
@@ -146,7 +174,9 @@ module _ (kits : Kits) (ck : Keeps (kits .collector)) (sk : Keeps (kits .spotter
   call-moves free (HandIn r) = hand-in-moves kits ck es p free r
   call-moves free (Advance t) = advance-moves kits ck es p free t
   call-moves free (Fire node) =
-      node-moves node (atCollector (fire (kits .collector) free (p .collector)) p) (atSpotter (fire (kits .spotter) free (p .spotter)) p) (λ t. cond t fires other)
+      node-moves node
+      (atCollector (fire (kits .collector) free (p .collector)) p) (atSpotter (fire (kits .spotter) free (p .spotter)) p)
+      (λ t. cond t fires other)
       (fire-moves kits ck es p free) (spot-fire-moves kits sk es p free) none none
   call-moves free Send = send-moves
   call-moves free (Lose place) = lose-moves place

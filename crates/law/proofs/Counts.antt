@@ -44,24 +44,33 @@ abbrev weight : List Production → ℕ
 weight ps = total (map (λ x. x .amount) ps)
 
 weight-++ : (xs ys : List Production) → weight (xs ++ ys) ≡ weight xs + weight ys
-weight-++ xs ys = ap (λ ns. total ns) (map-++ (λ (x : Production). x .amount) xs ys) ∙ total-++ (map (λ x. x .amount) xs) (map (λ x. x .amount) ys)
+weight-++ xs ys =
+    ap (λ ns. total ns) (map-++ (λ (x : Production). x .amount) xs ys) ∙
+    total-++ (map (λ x. x .amount) xs) (map (λ x. x .amount) ys)
 
 amounts-snoc : (rs : List Record) (r : Record) → amounts (rs ++ (r ∷ [])) ≡ amounts rs + r .amount
 amounts-snoc rs r =
-    let e = ap (λ ns. total ns) (map-++ (λ (x : Record). x .amount) rs (r ∷ [])) ∙ total-++ (map (λ x. x .amount) rs) (r .amount ∷ []) in
+    let e =
+        ap (λ ns. total ns) (map-++ (λ (x : Record). x .amount) rs (r ∷ [])) ∙
+        total-++ (map (λ x. x .amount) rs) (r .amount ∷ []) in
     omega arith
 
 weight-produced : (e : Option (ℕ × ℕ)) (n : ℕ) → weight (produced e n) ≡ emitted e
 weight-produced None n = refl
 weight-produced (Some x) n = omega arith
 
-module _ (c d : Computation (List ℕ)) (cl : Lawful c StateBytes) (dl : Lawful d StateBytes) (held weighed : List ℕ → ℕ) (cs : Conserves c StateBytes held) (ts : Totals d StateBytes weighed) where
+module _
+    (c d : Computation (List ℕ)) (cl : Lawful c StateBytes) (dl : Lawful d StateBytes) (held weighed : List ℕ → ℕ)
+    (cs : Conserves c StateBytes held) (ts : Totals d StateBytes weighed) where
   -- what was taken at a stop is open or was made, and what landed there is in the spotter's total
   pub record Balanced (L : Lane) : Type 0 where
     pub taken : amounts (L .took) ≡ held (L .crow .state) + weight (L .made)
     pub landed : weighed (L .srow .state) ≡ weight (L .landed)
 
-  step-balanced : (s cw sw : ℕ) → sw ≤ cw → cw ≤ lastTime → (link : List Message) (L L′ : Lane) → Good c d s cw sw L → Step c d s cw sw link L L′ → Balanced L → Balanced L′
+  step-balanced
+      : (s cw sw : ℕ)
+      → sw ≤ cw → cw ≤ lastTime → (link : List Message) (L L′ : Lane) → Good c d s cw sw L → Step c d s cw sw link L L′
+      → Balanced L → Balanced L′
   step-balanced s cw sw order last link L L′ g (takes r lets) b =
       let tk = takes-of c cw r (L .crow) (g .cbytes) last lets in
       let kept = cs .take-conserves (L .crow .state) cw (r .name .time) (r .amount) tk in
@@ -99,9 +108,14 @@ module _ (c d : Computation (List ℕ)) (cl : Lawful c StateBytes) (dl : Lawful 
   move-balanced W W′ w (advances same up last sw link) b q k = same-balanced W W′ same b q k
   move-balanced W W′ w (passes same cw up low link) b q k = same-balanced W W′ same b q k
   move-balanced W W′ w (stop s h step others cw sw link) b q k =
-      elim (cases-eq q s) [ inl e ↦ subst (λ x. Balanced (W′ .lane x)) (sym e) (step-balanced s (W .cw) (W .sw) (w .order) (w .last) (W .link) (W .lane s) (W′ .lane s) (w .lanes s h) step (b s h)) | inr ne ↦ subst Balanced (sym (others q ne)) (b q k) ]
+      elim (cases-eq q s)
+      [ inl e ↦ subst (λ x. Balanced (W′ .lane x)) (sym e) (step-balanced s (W .cw) (W .sw) (w .order) (w .last) (W .link) (W .lane s) (W′ .lane s) (w .lanes s h) step (b s h))
+      | inr ne ↦ subst Balanced (sym (others q ne)) (b q k) ]
 
-module _ (kits : Kits) (ck : Keeps (kits .collector)) (sk : Keeps (kits .spotter)) (held weighed : List ℕ → ℕ) (cs : Conserves (kits .collector .computation) StateBytes held) (ts : Totals (kits .spotter .computation) StateBytes weighed) where
+module _
+    (kits : Kits) (ck : Keeps (kits .collector)) (sk : Keeps (kits .spotter)) (held weighed : List ℕ → ℕ)
+    (cs : Conserves (kits .collector .computation) StateBytes held)
+    (ts : Totals (kits .spotter .computation) StateBytes weighed) where
   abbrev c : Computation (List ℕ)
   c = kits .collector .computation
 
@@ -113,7 +127,8 @@ module _ (kits : Kits) (ck : Keeps (kits .collector)) (sk : Keeps (kits .spotter
 
   run-balanced : (es : List Event) (p : Pair) → Run kits es p → (s : ℕ) → s < stops → BalancedAt (laneOf kits es p s)
   run-balanced [] p n s h = record {
-    taken = zeros (held (p .collector .row s .state)) (ap (λ r. held (r .state)) (n .collector .rows s) ∙ (ap held (sym (ck .zeros)) ∙ cs .first));
+    taken =
+        zeros (held (p .collector .row s .state)) (ap (λ r. held (r .state)) (n .collector .rows s) ∙ (ap held (sym (ck .zeros)) ∙ cs .first));
     landed = ap (λ r. weighed (r .state)) (n .spotter .rows s) ∙ (ap weighed (sym (sk .zeros)) ∙ ts .first);
   }
     where
@@ -122,11 +137,19 @@ module _ (kits : Kits) (ck : Keeps (kits .collector)) (sk : Keeps (kits .spotter
   run-balanced (e ∷ es) p r s h =
       let w = run-sound kits ck sk es (e .before) (r .0) in
       let r′ = happens kits (e .free) (e .call) (e .before) in
-      let next = move-balanced c d (ck .lawful) (sk .lawful) held weighed cs ts (worldOf kits es (e .before)) (nextWorld kits es (e .before) (deedOf (e .call) (e .before)) r′) w (call-moves kits ck sk es (e .before) (e .free) (e .call)) (run-balanced es (e .before) (r .0)) in
-      subst (λ q. (s : ℕ) → s < stops → BalancedAt (laneOf kits (e ∷ es) q s)) (r .2) (subst (λ x. (s : ℕ) → s < stops → BalancedAt (nextWorld kits es (e .before) (deedOf (e .call) (e .before)) x .lane s)) (r .1) next) s h
+      let next =
+          move-balanced c d
+          (ck .lawful) (sk .lawful) held weighed cs ts (worldOf kits es (e .before))
+          (nextWorld kits es (e .before) (deedOf (e .call) (e .before)) r′) w
+          (call-moves kits ck sk es (e .before) (e .free) (e .call)) (run-balanced es (e .before) (r .0)) in
+      subst
+      (λ q. (s : ℕ) → s < stops → BalancedAt (laneOf kits (e ∷ es) q s)) (r .2)
+      (subst (λ x. (s : ℕ) → s < stops → BalancedAt (nextWorld kits es (e .before) (deedOf (e .call) (e .before)) x .lane s)) (r .1) next) s h
 
   -- only records of real stops are taken
-  hand-in-range : (p : Pair) (free : Free) (r : Record) → wrote (kits .collector) (p .collector .power) (handIn (kits .collector) free r (p .collector) .0) ≡ true → r .stop < stops
+  hand-in-range
+      : (p : Pair) (free : Free) (r : Record)
+      → wrote (kits .collector) (p .collector .power) (handIn (kits .collector) free r (p .collector) .0) ≡ true → r .stop < stops
   hand-in-range p free r did =
       let n = p .collector in
       let a = considered c (n .power .on) (n .w) r (n .row (r .stop)) in
@@ -135,9 +158,14 @@ module _ (kits : Kits) (ck : Keeps (kits .collector)) (sk : Keeps (kits .spotter
       a′ : Answer
       a′ = considered c (p .collector .power .on) (p .collector .w) r (p .collector .row (r .stop))
 
-      at : (b : Bool) → isDone a′ ≡ b → wrote (kits .collector) (p .collector .power) (cond b (commitRow (kits .collector) free (r .stop) (takenRow c (p .collector .w) r (p .collector .row (r .stop))) (p .collector)) (a′, p .collector) .0) ≡ true → r .stop < stops
+      at
+          : (b : Bool)
+          → isDone a′ ≡ b
+          → wrote (kits .collector) (p .collector .power) (cond b (commitRow (kits .collector) free (r .stop) (takenRow c (p .collector .w) r (p .collector .row (r .stop))) (p .collector)) (a′, p .collector) .0) ≡ true
+          → r .stop < stops
       at true e h = considered-stop c (p .collector .power .on) (p .collector .w) r (p .collector .row (r .stop)) e
-      at false e h = absurd (both-ways (wrote (kits .collector) (p .collector .power) a′) (refused-wrote (kits .collector) (p .collector .power) a′ e (considered-plain c (p .collector .power .on) (p .collector .w) r (p .collector .row (r .stop)))) h)
+      at false e h =
+          absurd (both-ways (wrote (kits .collector) (p .collector .power) a′) (refused-wrote (kits .collector) (p .collector .power) a′ e (considered-plain c (p .collector .power .on) (p .collector .w) r (p .collector .row (r .stop)))) h)
 
   one : (b : Bool) (r x : Record) → Mem x (cond b (r ∷ []) []) → (x ≡ r) × (b ≡ true)
   one true r x (inl e) = (e, refl)
@@ -145,12 +173,16 @@ module _ (kits : Kits) (ck : Keeps (kits .collector)) (sk : Keeps (kits .spotter
   one false r x m = absurd m
 
   abbrev TakenBy : Call → Event → Type 0
-  TakenBy call e = (x : Record) → Mem x (takenAs (collectorWrote kits e) (deedOf call (e .before))) → happens kits (e .free) call (e .before) ≡ (e .outcome, e .after) → x .stop < stops
+  TakenBy call e =
+      (x : Record) → Mem x (takenAs (collectorWrote kits e) (deedOf call (e .before))) → happens kits (e .free) call (e .before) ≡ (e .outcome, e .after) → x .stop < stops
 
   by-call : (e : Event) (call : Call) → TakenBy call e
   by-call e (HandIn r) x m happened =
       let o = one (collectorWrote kits e) r x m in
-      let did : wrote (kits .collector) (e .before .collector .power) (handIn (kits .collector) (e .free) r (e .before .collector) .0) ≡ true = subst (λ (y : Outcome × Pair). wrote (kits .collector) (e .before .collector .power) (outcomeAnswer (y .0)) ≡ true) (sym happened) (o .1) in
+      let did : wrote (kits .collector) (e .before .collector .power) (handIn (kits .collector) (e .free) r (e .before .collector) .0) ≡ true =
+          subst
+          (λ (y : Outcome × Pair). wrote (kits .collector) (e .before .collector .power) (outcomeAnswer (y .0)) ≡ true)
+          (sym happened) (o .1) in
       subst (λ y. y .stop < stops) (sym (o .0)) (hand-in-range (e .before) (e .free) r did)
   by-call e (Advance t) x m happened = absurd m
   by-call e (Fire node) x m happened = absurd (none (eqb node 0) m)
@@ -175,7 +207,9 @@ module _ (kits : Kits) (ck : Keeps (kits .collector)) (sk : Keeps (kits .spotter
   taken-in-range : (es : List Event) (p : Pair) → Run kits es p → (x : Record) → Mem x (allTaken kits es) → x .stop < stops
   taken-in-range [] p r x m = absurd m
   taken-in-range (e ∷ es) p r x m =
-      elim (mem-split x (allTaken kits es) (takenAs (collectorWrote kits e) (deedOf (e .call) (e .before))) m) [ inl k ↦ taken-in-range es (e .before) (r .0) x k | inr k ↦ by-call e (e .call) x k (r .1) ]
+      elim (mem-split x (allTaken kits es) (takenAs (collectorWrote kits e) (deedOf (e .call) (e .before))) m)
+      [ inl k ↦ taken-in-range es (e .before) (r .0) x k
+      | inr k ↦ by-call e (e .call) x k (r .1) ]
 
   counted : (es : List Event) (p : Pair) → Run kits es p → Counted kits held weighed es p
   counted es p r =
@@ -185,15 +219,21 @@ module _ (kits : Kits) (ck : Keeps (kits .collector)) (sk : Keeps (kits .spotter
       let wait = λ (s : ℕ). weight (waiting kits s es p) in
       let land = λ (s : ℕ). weighed (p .spotter .row s .state) in
       let all = sum-by-stop stops (allTaken kits es) (taken-in-range es p r) in
-      let each = sum-same (λ s. amounts (taken kits s es)) (λ s. (open′ s + wait s) + land s) stops (λ s h. at s h (w .lanes s h) (b s h)) in
+      let each =
+          sum-same
+          (λ s. amounts (taken kits s es)) (λ s. (open′ s + wait s) + land s) stops (λ s h. at s h (w .lanes s h) (b s h)) in
       let one′ = sum-plus (λ s. open′ s + wait s) land stops in
       let two = sum-plus open′ wait stops in
       omega arith
     where
-      at : (s : ℕ) → s < stops → Good c d s (p .collector .w) (p .spotter .w) (laneOf kits es p s) → BalancedAt (laneOf kits es p s) → amounts (taken kits s es) ≡ (held (p .collector .row s .state) + weight (waiting kits s es p)) + weighed (p .spotter .row s .state)
+      at
+          : (s : ℕ)
+          → s < stops → Good c d s (p .collector .w) (p .spotter .w) (laneOf kits es p s) → BalancedAt (laneOf kits es p s)
+          → amounts (taken kits s es) ≡ (held (p .collector .row s .state) + weight (waiting kits s es p)) + weighed (p .spotter .row s .state)
       at s h g b =
           let line = ap weight (g .line .order) ∙ weight-++ (landed kits s es) (g .waits) in
-          let waits = ap weight (waits-is (made kits s es) (landed kits s es) (g .waits) (p .collector .row s .pending) (p .collector .row s .next) (g .line)) in
+          let waits =
+              ap weight (waits-is (made kits s es) (landed kits s es) (g .waits) (p .collector .row s .pending) (p .collector .row s .next) (g .line)) in
           let t = b .taken in
           let l = b .landed in
           omega arith

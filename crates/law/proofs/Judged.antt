@@ -33,7 +33,9 @@ use Rattle.law.proofs.Moves.{Lets}
 -- a row that can produce, or not, is no cut, and does not say seen
 room-one-plain : (row : Row) → (isCut (roomForOne row) ≡ false) × (isSeen (roomForOne row) ≡ false)
 room-one-plain row =
-    cond-both (leb mostPending (length (row .pending))) NoRoom (cond (leb lastSerial (row .next)) Over Done) (λ a. (isCut a ≡ false) × (isSeen a ≡ false))
+    cond-both
+    (leb mostPending (length (row .pending))) NoRoom (cond (leb lastSerial (row .next)) Over Done)
+    (λ a. (isCut a ≡ false) × (isSeen a ≡ false))
     (λ _. (refl, refl))
     (λ _. cond-both (leb lastSerial (row .next)) Over Done (λ a. (isCut a ≡ false) × (isSeen a ≡ false)) (λ _. (refl, refl)) (λ _. (refl, refl)))
 
@@ -41,9 +43,13 @@ room-for-plain : (e : Option (ℕ × ℕ)) (row : Row) → (isCut (roomFor e row
 room-for-plain None row = (refl, refl)
 room-for-plain (Some e) row = room-one-plain row
 
-room-plain : (c : Computation (List ℕ)) (w : ℕ) (r : Record) (row : Row) → (isCut (roomToTake c w r row) ≡ false) × (isSeen (roomToTake c w r row) ≡ false)
+room-plain
+    : (c : Computation (List ℕ)) (w : ℕ) (r : Record) (row : Row)
+    → (isCut (roomToTake c w r row) ≡ false) × (isSeen (roomToTake c w r row) ≡ false)
 room-plain c w r row =
-    cond-both (leb mostNames (length (kept (floorOf c w (takeOf c w r row .0)) (row .names)))) Full (roomFor (takeOf c w r row .1) row) (λ a. (isCut a ≡ false) × (isSeen a ≡ false))
+    cond-both
+    (leb mostNames (length (kept (floorOf c w (takeOf c w r row .0)) (row .names)))) Full (roomFor (takeOf c w r row .1) row)
+    (λ a. (isCut a ≡ false) × (isSeen a ≡ false))
     (λ _. (refl, refl))
     (λ _. room-for-plain (takeOf c w r row .1) row)
 
@@ -59,7 +65,9 @@ admission-plain true true false false TooEarly = refl
 admission-plain true true false false TooMuch = refl
 admission-plain true true false false Fine = refl
 
-pub considered-plain : (c : Computation (List ℕ)) (on : Bool) (w : ℕ) (r : Record) (row : Row) → isCut (considered c on w r row) ≡ false
+pub considered-plain
+    : (c : Computation (List ℕ)) (on : Bool) (w : ℕ) (r : Record) (row : Row)
+    → isCut (considered c on w r row) ≡ false
 considered-plain c on w r row =
     cond-both (isDone (admitted c on w r row)) (roomToTake c w r row) (admitted c on w r row) (λ a. isCut a ≡ false)
     (λ _. room-plain c w r row .0)
@@ -73,7 +81,9 @@ pub record Passed (ranged on late known : Bool) (v : Verdict) : Type 0 where
   pub unseen : known ≡ false
   pub fine : v ≡ Fine
 
-admission-done : (ranged on late known : Bool) (v : Verdict) → isDone (admission ranged on late known v) ≡ true → Passed ranged on late known v
+admission-done
+    : (ranged on late known : Bool) (v : Verdict)
+    → isDone (admission ranged on late known v) ≡ true → Passed ranged on late known v
 admission-done false on late known v e = absurd (false≢true e)
 admission-done true false late known v e = absurd (false≢true e)
 admission-done true true true known v e = absurd (false≢true e)
@@ -82,7 +92,9 @@ admission-done true true false false TooEarly e = absurd (false≢true e)
 admission-done true true false false TooMuch e = absurd (false≢true e)
 admission-done true true false false Fine e = record { in-range = refl; is-on = refl; in-time = refl; unseen = refl; fine = refl }
 
-admission-seen : (ranged on late known : Bool) (v : Verdict) → isSeen (admission ranged on late known v) ≡ true → (ranged ≡ true) × (known ≡ true)
+admission-seen
+    : (ranged on late known : Bool) (v : Verdict)
+    → isSeen (admission ranged on late known v) ≡ true → (ranged ≡ true) × (known ≡ true)
 admission-seen false on late known v e = absurd (false≢true e)
 admission-seen true false late known v e = absurd (false≢true e)
 admission-seen true true true known v e = absurd (false≢true e)
@@ -100,8 +112,10 @@ same-name m n e =
 
 name-same : (m n : Name) → m ≡ n → sameName m n ≡ true
 name-same m n e =
-    and-from (eqb (m .serial) (n .serial)) (eqb (m .time) (n .time) && eqb (m .sender) (n .sender)) (eq-eqb (m .serial) (n .serial) (ap (λ (x : Name). x .serial) e))
-    (and-from (eqb (m .time) (n .time)) (eqb (m .sender) (n .sender)) (eq-eqb (m .time) (n .time) (ap (λ (x : Name). x .time) e)) (eq-eqb (m .sender) (n .sender) (ap (λ (x : Name). x .sender) e)))
+    and-from
+    (eqb (m .sender) (n .sender)) (eqb (m .serial) (n .serial) && eqb (m .time) (n .time))
+    (eq-eqb (m .sender) (n .sender) (ap (λ (x : Name). x .sender) e))
+    (and-from (eqb (m .serial) (n .serial)) (eqb (m .time) (n .time)) (eq-eqb (m .serial) (n .serial) (ap (λ (x : Name). x .serial) e)) (eq-eqb (m .time) (n .time) (ap (λ (x : Name). x .time) e)))
 
 pub mem-seen : (n : Name) (names : List Name) → Mem n names → seen n names ≡ true
 mem-seen n [] m = absurd m
@@ -126,9 +140,14 @@ module _ (c : Computation (List ℕ)) (on : Bool) (w : ℕ) (r : Record) (row : 
   considered-done : isDone (considered c on w r row) ≡ true → Passed (inRange r) on late (seen (r .name) (row .names)) says
   unfolding late says
   considered-done e =
-      admission-done (inRange r) on (ltb (r .name .time) (floorOf c w (row .state))) (seen (r .name) (row .names)) (c .verdict (row .state) w (r .name .time) (r .amount)) (at (isDone (admitted c on w r row)) refl e)
+      admission-done
+      (inRange r) on (ltb (r .name .time) (floorOf c w (row .state))) (seen (r .name) (row .names))
+      (c .verdict (row .state) w (r .name .time) (r .amount)) (at (isDone (admitted c on w r row)) refl e)
     where
-      at : (b : Bool) → isDone (admitted c on w r row) ≡ b → isDone (cond b (roomToTake c w r row) (admitted c on w r row)) ≡ true → isDone (admitted c on w r row) ≡ true
+      at
+          : (b : Bool)
+          → isDone (admitted c on w r row) ≡ b → isDone (cond b (roomToTake c w r row) (admitted c on w r row)) ≡ true
+          → isDone (admitted c on w r row) ≡ true
       at true t h = t
       at false t h = h
 
@@ -164,29 +183,45 @@ module _ (c : Computation (List ℕ)) (on : Bool) (w : ℕ) (r : Record) (row : 
     where
       from : isSeen (admitted c on w r row) ≡ true → (r .stop < stops) × Mem (r .name) (row .names)
       from h =
-          let p = admission-seen (inRange r) on (ltb (r .name .time) (floorOf c w (row .state))) (seen (r .name) (row .names)) (c .verdict (row .state) w (r .name .time) (r .amount)) h in
+          let p =
+              admission-seen
+              (inRange r) on (ltb (r .name .time) (floorOf c w (row .state))) (seen (r .name) (row .names))
+              (c .verdict (row .state) w (r .name .time) (r .amount)) h in
           let rest = leb (r .name .time) lastTime && (ltb 0 (r .amount) && leb (r .amount) mostAmount) in
           (ltb-true (r .stop) stops (and-parts (ltb (r .stop) stops) rest (p .0) .0), seen-mem (r .name) (row .names) (p .1))
 
-      at : (b : Bool) → isSeen (cond b (roomToTake c w r row) (admitted c on w r row)) ≡ true → (r .stop < stops) × Mem (r .name) (row .names)
+      at
+          : (b : Bool)
+          → isSeen (cond b (roomToTake c w r row) (admitted c on w r row)) ≡ true → (r .stop < stops) × Mem (r .name) (row .names)
       at true h = absurd (both-ways (isSeen (roomToTake c w r row)) (room-plain c w r row .1) h)
       at false h = from h
 
 -- a refusal writes nothing; a commit writes exactly if the row is new by the store's rule
 pub refused-wrote : (kit : Kit) (p : Power) (a : Answer) → isDone a ≡ false → isCut a ≡ false → wrote kit p a ≡ false
 refused-wrote kit p a e f =
-    subst (λ b. (b || (isCut a && renewed (kit .turn) p)) ≡ false) (sym e) (subst (λ b. (b && renewed (kit .turn) p) ≡ false) (sym f) refl)
+    subst
+    (λ b. (b || (isCut a && renewed (kit .turn) p)) ≡ false) (sym e)
+    (subst (λ b. (b && renewed (kit .turn) p) ≡ false) (sym f) refl)
 
-pub commit-wrote : (kit : Kit) → kit .turn ≤ kit .cost → (point : CutPoint) (p : Power) → wrote kit p (commitAnswer (kit .cost) point p) ≡ renewed (kit .turn) p
+pub commit-wrote
+    : (kit : Kit)
+    → kit .turn ≤ kit .cost → (point : CutPoint) (p : Power)
+    → wrote kit p (commitAnswer (kit .cost) point p) ≡ renewed (kit .turn) p
 commit-wrote kit turns point p = at (leb (kit .cost) (p .left)) refl
   where
     at : (b : Bool) → leb (kit .cost) (p .left) ≡ b → wrote kit p (cond b Done (Cut point)) ≡ renewed (kit .turn) p
-    at true e = sym (or-left (leb (kit .turn) (p .left)) (eqb (p .left + 1) (kit .turn) && eqb (p .tear) 1) (le-leb (kit .turn) (p .left) (omega (arith, leb-true (kit .cost) (p .left) e))))
+    at true e =
+        sym (or-left (leb (kit .turn) (p .left)) (eqb (p .left + 1) (kit .turn) && eqb (p .tear) 1) (le-leb (kit .turn) (p .left) (omega (arith, leb-true (kit .cost) (p .left) e))))
     at false e = refl
 
 -- a commit that is done has written
-pub done-renewed : (kit : Kit) → kit .turn ≤ kit .cost → (point : CutPoint) (p : Power) → isDone (commitAnswer (kit .cost) point p) ≡ true → renewed (kit .turn) p ≡ true
-done-renewed kit turns point p e = sym (commit-wrote kit turns point p) ∙ or-left (isDone (commitAnswer (kit .cost) point p)) (isCut (commitAnswer (kit .cost) point p) && renewed (kit .turn) p) e
+pub done-renewed
+    : (kit : Kit)
+    → kit .turn ≤ kit .cost → (point : CutPoint) (p : Power) → isDone (commitAnswer (kit .cost) point p) ≡ true
+    → renewed (kit .turn) p ≡ true
+done-renewed kit turns point p e =
+    sym (commit-wrote kit turns point p) ∙
+    or-left (isDone (commitAnswer (kit .cost) point p)) (isCut (commitAnswer (kit .cost) point p) && renewed (kit .turn) p) e
 
 pub commit-unseen : (cost : ℕ) (point : CutPoint) (p : Power) → isSeen (commitAnswer cost point p) ≡ false
 commit-unseen cost point p = cond-both (leb cost (p .left)) Done (Cut point) (λ a. isSeen a ≡ false) (λ _. refl) (λ _. refl)

@@ -34,11 +34,14 @@ use Rattle.law.proofs.Next.{none-some}
 
 -- what stands at a place is there
 place-there : {X : Type 0} (x : X) (xs : List X) (i : ℕ) → nth xs i ≡ Some x → i < length xs
-place-there x xs i e = elim (cases-lt i (length xs)) [ inl lt ↦ lt | inr le ↦ absurd (none-some x (let n = nth-past xs i le in cc)) ]
+place-there x xs i e = elim (cases-lt i (length xs))
+    [ inl lt ↦ lt
+    | inr le ↦ absurd (none-some x (let n = nth-past xs i le in cc)) ]
 
 reply-short : (s n : ℕ) (a : Answer) → length (reply s n a) ≤ 1
 reply-short s n a =
-    cond-both (isDone a || isSeen a) (Acknowledged s n ∷ []) [] (λ (ms : List Message). length ms ≤ 1) (λ _. omega arith) (λ _. omega arith)
+    cond-both
+    (isDone a || isSeen a) (Acknowledged s n ∷ []) [] (λ (ms : List Message). length ms ≤ 1) (λ _. omega arith) (λ _. omega arith)
 
 module _ (kits : Kits) (free : Free) (p : Pair) (h : length (p .link) ≤ mostMessages) where
   abbrev After : Outcome × Pair → Type 0
@@ -82,10 +85,15 @@ module _ (kits : Kits) (free : Free) (p : Pair) (h : length (p .link) ≤ mostMe
       let one = shorter place (place-there (Produced s x) (p .link) place e) in
       let long = length-append (removed (p .link) place) (reply s (x .serial) (r .0)) in
       let short = reply-short s (x .serial) (r .0) in
-      cond-both (p .spotter .power .on) (arrives s (x .serial) (removed (p .link) place) r p) (Plain Off, p) After (λ _. omega arith) (λ _. h)
+      cond-both
+      (p .spotter .power .on) (arrives s (x .serial) (removed (p .link) place) r p) (Plain Off, p) After (λ _. omega arith)
+      (λ _. h)
   deliver-fits place (Some (Acknowledged s n)) e =
       let one = shorter place (place-there (Acknowledged s n) (p .link) place e) in
-      cond-both (p .collector .power .on) (atCollector (clear (kits .collector) free s n (p .collector)) (withLink (removed (p .link) place) p)) (Plain Off, p) After (λ _. omega arith) (λ _. h)
+      cond-both
+      (p .collector .power .on)
+      (atCollector (clear (kits .collector) free s n (p .collector)) (withLink (removed (p .link) place) p)) (Plain Off, p) After
+      (λ _. omega arith) (λ _. h)
 
   node-fits : (node : ℕ) (first second : Outcome × Pair) → After first → After second → After (atNode node first second p)
   node-fits node first second a b =
@@ -97,7 +105,8 @@ module _ (kits : Kits) (free : Free) (p : Pair) (h : length (p .link) ≤ mostMe
   call-fits (HandIn r) = h
   call-fits (Advance t) = h
   call-fits (Fire node) =
-      node-fits node (atCollector (fire (kits .collector) free (p .collector)) p) (atSpotter (fire (kits .spotter) free (p .spotter)) p) h h
+      node-fits node
+      (atCollector (fire (kits .collector) free (p .collector)) p) (atSpotter (fire (kits .spotter) free (p .spotter)) p) h h
   call-fits Send =
       cond-both (p .collector .power .on) (sendPending (pendingStops (p .collector .row)) p) (Plain Off, p) After
       (λ _. send-pending-fits (pendingStops (p .collector .row)))
@@ -114,6 +123,8 @@ module _ (kits : Kits) (free : Free) (p : Pair) (h : length (p .link) ≤ mostMe
       (λ _. cond-both (p .spotter .power .on) raised (Plain Off, p) After (λ _. h) (λ _. h))
       (λ _. h)
   call-fits (Restart node left tear junk) =
-      node-fits node (atCollector (restart free left tear (junkBytes junk) (p .collector)) p) (atSpotter (restart free left tear (junkBytes junk) (p .spotter)) p) h h
+      node-fits node
+      (atCollector (restart free left tear (junkBytes junk) (p .collector)) p)
+      (atSpotter (restart free left tear (junkBytes junk) (p .spotter)) p) h h
   call-fits Show = h
   call-fits (MarkDone s n) = h

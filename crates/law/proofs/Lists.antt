@@ -57,7 +57,9 @@ module _ {X : Type 0} where
   kept-mem x test [] m = m
   kept-mem x test (y ∷ xs) m = at (kept-mem x test xs) (test y) m
     where
-      at : (Mem x (kept-by test xs) → Mem x xs) → (b : Bool) → Mem x (cond b (y ∷ kept-by test xs) (kept-by test xs)) → Mem x (y ∷ xs)
+      at
+          : (Mem x (kept-by test xs) → Mem x xs)
+          → (b : Bool) → Mem x (cond b (y ∷ kept-by test xs) (kept-by test xs)) → Mem x (y ∷ xs)
       at below true (inl e) = inl e
       at below true (inr k) = inr (below k)
       at below false k = inr (below k)
@@ -75,7 +77,9 @@ module _ {X : Type 0} where
   kept-passes x test [] m = absurd m
   kept-passes x test (y ∷ xs) m = at (kept-passes x test xs) (test y) refl m
     where
-      at : (Mem x (kept-by test xs) → test x ≡ true) → (b : Bool) → test y ≡ b → Mem x (cond b (y ∷ kept-by test xs) (kept-by test xs)) → test x ≡ true
+      at
+          : (Mem x (kept-by test xs) → test x ≡ true)
+          → (b : Bool) → test y ≡ b → Mem x (cond b (y ∷ kept-by test xs) (kept-by test xs)) → test x ≡ true
       at below true t (inl e) = ap test e ∙ t
       at below true t (inr k) = below k
       at below false t k = below k

@@ -76,7 +76,10 @@ worldOf kits es p =
     record { lane = laneOf kits es p; cw = p .collector .w; sw = p .spotter .w; link = p .link }
 
 -- a lane is told by its parts
-pub lane-path : (L : Lane) {crow srow : Row} {took : List Record} {made landed : List Production} → crow ≡ L .crow → srow ≡ L .srow → took ≡ L .took → made ≡ L .made → landed ≡ L .landed → _≡_ {A = Lane} (record { crow = crow; srow = srow; took = took; made = made; landed = landed }) L
+pub lane-path
+    : (L : Lane) {crow srow : Row} {took : List Record} {made landed : List Production}
+    → crow ≡ L .crow → srow ≡ L .srow → took ≡ L .took → made ≡ L .made → landed ≡ L .landed
+    → _≡_ {A = Lane} (record { crow = crow; srow = srow; took = took; made = made; landed = landed }) L
 lane-path L a b c d e = λ i. record { crow = a i; srow = b i; took = c i; made = d i; landed = e i }
 
 pub row-at : (s : ℕ) (new : Row) (rows : ℕ → Row) → withRow s new rows s ≡ new
@@ -86,7 +89,9 @@ pub row-off : (s q : ℕ) (new : Row) (rows : ℕ → Row) → (q ≡ s → ⊥)
 row-off s q new rows ne = ap (λ b. cond b new (rows q)) (ne-eqb q s ne)
 
 module _ (kits : Kits) (es : List Event) (p : Pair) where
-  abbrev pub grown : (ℕ → Row) → (ℕ → Row) → List Record → (ℕ → List Production) → (ℕ → List Production) → ℕ → ℕ → List Message → World
+  abbrev pub grown
+      : (ℕ → Row)
+      → (ℕ → Row) → List Record → (ℕ → List Production) → (ℕ → List Production) → ℕ → ℕ → List Message → World
   grown crow srow T M D cw sw link = record {
     lane = λ s. record {
       crow = crow s;
@@ -111,21 +116,33 @@ module _ (kits : Kits) (es : List Event) (p : Pair) where
 
   pub took-none : (s : ℕ) (T : List Record) → T ≡ [] → kept-by (λ r. eqb (r .stop) s) (allTaken kits es ++ T) ≡ taken kits s es
   took-none s T e =
-      ap (λ xs. kept-by (λ r. eqb (r .stop) s) (allTaken kits es ++ xs)) e ∙ ap (λ xs. kept-by (λ r. eqb (r .stop) s) xs) (append-nil (allTaken kits es))
+      ap (λ xs. kept-by (λ r. eqb (r .stop) s) (allTaken kits es ++ xs)) e ∙
+      ap (λ xs. kept-by (λ r. eqb (r .stop) s) xs) (append-nil (allTaken kits es))
 
   pub none-added : {X : Type 0} (xs ys : List X) → ys ≡ [] → xs ++ ys ≡ xs
   none-added xs ys e = ap (λ zs. xs ++ zs) e ∙ append-nil xs
 
   -- a record taken stands last at its stop, and at no other
-  pub took-at : (r : Record) → kept-by (λ x. eqb (x .stop) (r .stop)) (allTaken kits es ++ (r ∷ [])) ≡ taken kits (r .stop) es ++ (r ∷ [])
+  pub took-at
+      : (r : Record)
+      → kept-by (λ x. eqb (x .stop) (r .stop)) (allTaken kits es ++ (r ∷ [])) ≡ taken kits (r .stop) es ++ (r ∷ [])
   took-at r =
-      kept-by-append (λ x. eqb (x .stop) (r .stop)) (allTaken kits es) (r ∷ []) ∙ ap (λ b. taken kits (r .stop) es ++ cond b (r ∷ []) []) (eq-eqb (r .stop) (r .stop) refl)
+      kept-by-append (λ x. eqb (x .stop) (r .stop)) (allTaken kits es) (r ∷ []) ∙
+      ap (λ b. taken kits (r .stop) es ++ cond b (r ∷ []) []) (eq-eqb (r .stop) (r .stop) refl)
 
-  pub took-off : (q : ℕ) (r : Record) → (q ≡ r .stop → ⊥) → kept-by (λ x. eqb (x .stop) q) (allTaken kits es ++ (r ∷ [])) ≡ taken kits q es
+  pub took-off
+      : (q : ℕ) (r : Record)
+      → (q ≡ r .stop → ⊥) → kept-by (λ x. eqb (x .stop) q) (allTaken kits es ++ (r ∷ [])) ≡ taken kits q es
   took-off q r ne =
-      kept-by-append (λ x. eqb (x .stop) q) (allTaken kits es) (r ∷ []) ∙ (ap (λ b. taken kits q es ++ cond b (r ∷ []) []) (ne-eqb (r .stop) q (λ e. ne (sym e))) ∙ append-nil (taken kits q es))
+      kept-by-append (λ x. eqb (x .stop) q) (allTaken kits es) (r ∷ []) ∙
+      (ap (λ b. taken kits q es ++ cond b (r ∷ []) []) (ne-eqb (r .stop) q (λ e. ne (sym e))) ∙ append-nil (taken kits q es))
 
   -- nothing has happened at any stop
-  pub same-grown : (crow srow : ℕ → Row) (T : List Record) (M D : ℕ → List Production) (cw sw : ℕ) (link : List Message) → ((s : ℕ) → crow s ≡ p .collector .row s) → ((s : ℕ) → srow s ≡ p .spotter .row s) → T ≡ [] → ((s : ℕ) → M s ≡ []) → ((s : ℕ) → D s ≡ []) → Same (worldOf kits es p) (grown crow srow T M D cw sw link)
+  pub same-grown
+      : (crow srow : ℕ → Row) (T : List Record) (M D : ℕ → List Production) (cw sw : ℕ) (link : List Message)
+      → ((s : ℕ) → crow s ≡ p .collector .row s) → ((s : ℕ) → srow s ≡ p .spotter .row s) → T ≡ [] → ((s : ℕ) → M s ≡ [])
+      → ((s : ℕ) → D s ≡ []) → Same (worldOf kits es p) (grown crow srow T M D cw sw link)
   same-grown crow srow T M D cw sw link a b t m d s =
-      lane-path (laneOf kits es p s) (a s) (b s) (took-none s T t) (none-added (made kits s es) (M s) (m s)) (none-added (landed kits s es) (D s) (d s))
+      lane-path
+      (laneOf kits es p s) (a s) (b s) (took-none s T t) (none-added (made kits s es) (M s) (m s))
+      (none-added (landed kits s es) (D s) (d s))

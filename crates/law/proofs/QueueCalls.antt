@@ -63,11 +63,16 @@ module _ (kits : Kits) (ck : Keeps (kits .collector)) (sk : Keeps (kits .spotter
   deliver-holds : (place : ℕ) (o : Option Message) → After (deliverOf kits free place o p)
   deliver-holds place None = h
   deliver-holds place (Some (Produced s x)) =
-      cond-both (p .spotter .power .on) (arrives s (x .serial) (removed (p .link) place) (handIn (kits .spotter) free (asRecord s x) (p .spotter)) p) (Plain Off, p) After
+      cond-both
+      (p .spotter .power .on)
+      (arrives s (x .serial) (removed (p .link) place) (handIn (kits .spotter) free (asRecord s x) (p .spotter)) p)
+      (Plain Off, p) After
       (λ _. record { collector = h .collector; spotter = hand-in-held (kits .spotter) sk free (p .spotter) (h .spotter) (asRecord s x) })
       (λ _. h)
   deliver-holds place (Some (Acknowledged s n)) =
-      cond-both (p .collector .power .on) (atCollector (clear (kits .collector) free s n (p .collector)) (withLink (removed (p .link) place) p)) (Plain Off, p) After
+      cond-both
+      (p .collector .power .on)
+      (atCollector (clear (kits .collector) free s n (p .collector)) (withLink (removed (p .link) place) p)) (Plain Off, p) After
       (λ _. record { collector = clear-held (kits .collector) ck free (p .collector) (h .collector) s n; spotter = h .spotter })
       (λ _. h)
 
@@ -92,7 +97,8 @@ module _ (kits : Kits) (ck : Keeps (kits .collector)) (sk : Keeps (kits .spotter
   call-holds (Advance t) =
       record { collector = advance-held (kits .collector) ck free (p .collector) (h .collector) t; spotter = h .spotter }
   call-holds (Fire node) =
-      node-holds node (atCollector (fire (kits .collector) free (p .collector)) p) (atSpotter (fire (kits .spotter) free (p .spotter)) p)
+      node-holds node
+      (atCollector (fire (kits .collector) free (p .collector)) p) (atSpotter (fire (kits .spotter) free (p .spotter)) p)
       (record { collector = fire-held (kits .collector) ck free (p .collector) (h .collector); spotter = h .spotter })
       (record { collector = h .collector; spotter = fire-held (kits .spotter) sk free (p .spotter) (h .spotter) })
   call-holds Send =
@@ -107,7 +113,9 @@ module _ (kits : Kits) (ck : Keeps (kits .collector)) (sk : Keeps (kits .spotter
   call-holds (Deliver place) = deliver-holds place (nth (p .link) place)
   call-holds Pass = pass-holds
   call-holds (Restart node left tear junk) =
-      node-holds node (atCollector (restart free left tear (junkBytes junk) (p .collector)) p) (atSpotter (restart free left tear (junkBytes junk) (p .spotter)) p)
+      node-holds node
+      (atCollector (restart free left tear (junkBytes junk) (p .collector)) p)
+      (atSpotter (restart free left tear (junkBytes junk) (p .spotter)) p)
       (record { collector = restart-held (kits .collector) ck free (p .collector) (h .collector) left tear (junkBytes junk); spotter = h .spotter })
       (record { collector = h .collector; spotter = restart-held (kits .spotter) sk free (p .spotter) (h .spotter) left tear (junkBytes junk) })
   call-holds Show = h

@@ -64,19 +64,30 @@ module _ (s : ℕ) (h : s < stops) (new : Row) (rows : ℕ → Row) (queue : Lis
   leaves : new .pending ≡ [] → Right (withRow s new rows) (kept-by (λ q. not (eqb q s)) queue)
   leaves none = record {
     once = apart-kept (λ q. not (eqb q s)) queue (r .once);
-    pending = λ q m. was q (r .pending q (kept-mem q (λ x. not (eqb x s)) queue m)) (eqb-false q s (not-true (eqb q s) (kept-passes q (λ x. not (eqb x s)) queue m)));
+    pending =
+        λ q m. was q (r .pending q (kept-mem q (λ x. not (eqb x s)) queue m)) (eqb-false q s (not-true (eqb q s) (kept-passes q (λ x. not (eqb x s)) queue m)));
     all = λ q k some. is q k some (cases-eq q s);
   }
     where
-      was : (q : ℕ) → (q < stops) × (rows q .pending ≡ [] → ⊥) → (q ≡ s → ⊥) → (q < stops) × (withRow s new rows q .pending ≡ [] → ⊥)
+      was
+          : (q : ℕ)
+          → (q < stops) × (rows q .pending ≡ [] → ⊥) → (q ≡ s → ⊥) → (q < stops) × (withRow s new rows q .pending ≡ [] → ⊥)
       was q x ne = (x .0, λ e. x .1 (sym (at-old q ne) ∙ e))
 
-      is : (q : ℕ) → q < stops → (withRow s new rows q .pending ≡ [] → ⊥) → (q ≡ s) ⊎ (q ≡ s → ⊥) → Mem q (kept-by (λ x. not (eqb x s)) queue)
+      is
+          : (q : ℕ)
+          → q < stops → (withRow s new rows q .pending ≡ [] → ⊥) → (q ≡ s) ⊎ (q ≡ s → ⊥)
+          → Mem q (kept-by (λ x. not (eqb x s)) queue)
       is q k some (inl e) = absurd (some (at-new q e ∙ none))
-      is q k some (inr ne) = mem-kept q (λ x. not (eqb x s)) queue (r .all q k (λ e. some (at-old q ne ∙ e))) (not-from-false (eqb q s) (ne-eqb q s ne))
+      is q k some (inr ne) =
+          mem-kept q
+          (λ x. not (eqb x s)) queue (r .all q k (λ e. some (at-old q ne ∙ e))) (not-from-false (eqb q s) (ne-eqb q s ne))
 
   -- a queue that holds the stop, and else what it held before
-  joins : (new .pending ≡ [] → ⊥) → (queue′ : List ℕ) → Apart queue′ → Mem s queue′ → ((q : ℕ) → Mem q queue → Mem q queue′) → ((q : ℕ) → Mem q queue′ → Mem q queue ⊎ (q ≡ s)) → Right (withRow s new rows) queue′
+  joins
+      : (new .pending ≡ [] → ⊥)
+      → (queue′ : List ℕ) → Apart queue′ → Mem s queue′ → ((q : ℕ) → Mem q queue → Mem q queue′)
+      → ((q : ℕ) → Mem q queue′ → Mem q queue ⊎ (q ≡ s)) → Right (withRow s new rows) queue′
   joins some queue′ once here more less′ = record {
     once = once;
     pending = λ q m. was q (cases-eq q s) (less′ q m);
@@ -102,7 +113,9 @@ module _ (s : ℕ) (h : s < stops) (new : Row) (rows : ℕ → Row) (queue : Lis
       at : (b : Bool) → stands s queue ≡ b → Right (withRow s new rows) (cond b queue (queue ++ (s ∷ [])))
       at true t = joins some queue (r .once) (stands-mem s queue t) (λ q m. m) (λ q m. inl m)
       at false t =
-          joins some (queue ++ (s ∷ [])) (apart-snoc s queue (r .once) (λ m. absurd (false≢true (sym t ∙ mem-stands s queue m)))) (mem-last s queue)
+          joins some
+          (queue ++ (s ∷ [])) (apart-snoc s queue (r .once) (λ m. absurd (false≢true (sym t ∙ mem-stands s queue m))))
+          (mem-last s queue)
           (λ q m. mem-left q queue (s ∷ []) m) (λ q m. mem-snoc q s queue m)
 
 -- the stops with something pending, rising, are a right queue
@@ -111,16 +124,24 @@ record Listed (rows : ℕ → Row) (n : ℕ) (queue : List ℕ) : Type 0 where
   pending : (s : ℕ) → Mem s queue → (s < n) × (rows s .pending ≡ [] → ⊥)
   all : (s : ℕ) → s < n → (rows s .pending ≡ [] → ⊥) → Mem s queue
 
-listed-more : (rows : ℕ → Row) (n : ℕ) (queue : List ℕ) (ps : List Production) → rows n .pending ≡ ps → Listed rows n queue → Listed rows (suc n) (queue ++ listed n ps)
+listed-more
+    : (rows : ℕ → Row) (n : ℕ) (queue : List ℕ) (ps : List Production)
+    → rows n .pending ≡ ps → Listed rows n queue → Listed rows (suc n) (queue ++ listed n ps)
 listed-more rows n queue [] e l = record {
   once = subst (λ q. Apart q) (sym (append-nil queue)) (l .once);
   pending = λ s m. let x = l .pending s (subst (λ q. Mem s q) (append-nil queue) m) in (omega (arith, x .0), x .1);
-  all = λ s k some. subst (λ q. Mem s q) (sym (append-nil queue)) (elim (cases-eq s n) [ inl same ↦ absurd (some (ap (λ i. rows i .pending) same ∙ e)) | inr ne ↦ l .all s (less s n k ne) some ]);
+  all = λ s k some. subst (λ q. Mem s q) (sym (append-nil queue)) (elim (cases-eq s n)
+      [ inl same ↦ absurd (some (ap (λ i. rows i .pending) same ∙ e))
+      | inr ne ↦ l .all s (less s n k ne) some ]);
 }
 listed-more rows n queue (p ∷ ps) e l = record {
   once = apart-snoc n queue (l .once) (λ m. fresh (l .pending n m .0));
-  pending = λ s m. elim (mem-snoc s n queue m) [ inl k ↦ old s (l .pending s k) | inr same ↦ (new s same, λ f. cons-nil p ps (sym e ∙ (sym (ap (λ i. rows i .pending) same) ∙ f))) ];
-  all = λ s k some. elim (cases-eq s n) [ inl same ↦ subst (λ x. Mem x (queue ++ (n ∷ []))) (sym same) (mem-last n queue) | inr ne ↦ mem-left s queue (n ∷ []) (l .all s (less s n k ne) some) ];
+  pending = λ s m. elim (mem-snoc s n queue m)
+      [ inl k ↦ old s (l .pending s k)
+      | inr same ↦ (new s same, λ f. cons-nil p ps (sym e ∙ (sym (ap (λ i. rows i .pending) same) ∙ f))) ];
+  all = λ s k some. elim (cases-eq s n)
+      [ inl same ↦ subst (λ x. Mem x (queue ++ (n ∷ []))) (sym same) (mem-last n queue)
+      | inr ne ↦ mem-left s queue (n ∷ []) (l .all s (less s n k ne) some) ];
 }
   where
     fresh : n < n → ⊥
@@ -180,7 +201,10 @@ module _ (kit : Kit) (keeps : Keeps kit) (free : Free) (n : Node) (held : Held n
   -- a commit that leaves the node on has written
   commit-held : (s : ℕ) (new : Row) → s < stops → n .power .on ≡ true → Held (commitRow kit free s new n .1)
   commit-held s new h on done =
-      let wrote : renewed (kit .turn) (n .power) ≡ true = or-left (leb (kit .turn) (n .power .left)) (eqb (n .power .left + 1) (kit .turn) && eqb (n .power .tear) 1) (le-leb (kit .turn) (n .power .left) (omega (arith, leb-true (kit .cost) (n .power .left) done, keeps .turn-ends))) in
+      let wrote : renewed (kit .turn) (n .power) ≡ true =
+          or-left
+          (leb (kit .turn) (n .power .left)) (eqb (n .power .left + 1) (kit .turn) && eqb (n .power .tear) 1)
+          (le-leb (kit .turn) (n .power .left) (omega (arith, leb-true (kit .cost) (n .power .left) done, keeps .turn-ends))) in
       right-queued (commitRow kit free s new n .1)
       (subst (λ b. Right (cond b (withRow s new (n .row)) (n .row)) (requeued s (new .pending) (n .queue))) (sym wrote)
       (requeued-right s h new (n .row) (n .queue) (queued-right n (held on)) (new .pending) refl))
@@ -188,7 +212,9 @@ module _ (kit : Kit) (keeps : Keeps kit) (free : Free) (n : Node) (held : Held n
   pub hand-in-held : (r : Record) → Held (handIn kit free r n .1)
   hand-in-held r =
       let a = considered (kit .computation) (n .power .on) (n .w) r (n .row (r .stop)) in
-      cond-both (isDone a) (commitRow kit free (r .stop) (takenRow (kit .computation) (n .w) r (n .row (r .stop))) n) (a, n) (λ x. Held (x .1))
+      cond-both
+      (isDone a) (commitRow kit free (r .stop) (takenRow (kit .computation) (n .w) r (n .row (r .stop))) n) (a, n)
+      (λ x. Held (x .1))
       (λ e. commit-held (r .stop) (takenRow (kit .computation) (n .w) r (n .row (r .stop))) (considered-stop (kit .computation) (n .power .on) (n .w) r (n .row (r .stop)) e) (considered-on (kit .computation) (n .power .on) (n .w) r (n .row (r .stop)) e))
       (λ _. held)
 
@@ -204,7 +230,8 @@ module _ (kit : Kit) (keeps : Keeps kit) (free : Free) (n : Node) (held : Held n
       (λ _. cond-both (n .power .on) (raise kit free t n) (Off, n) (λ x. Held (x .1)) (λ on. raise-held t on) (λ _. held))
       (λ _. held)
 
-  fire-due-held : n .power .on ≡ true → (o : Option (ℕ × ℕ)) → earliest (kit .computation) (n .row) ≡ o → Held (fireDue kit free o n .1)
+  fire-due-held
+      : n .power .on ≡ true → (o : Option (ℕ × ℕ)) → earliest (kit .computation) (n .row) ≡ o → Held (fireDue kit free o n .1)
   fire-due-held on None e = held
   fire-due-held on (Some x) e =
       let room = roomForOne (n .row (x .0)) in

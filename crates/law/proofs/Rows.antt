@@ -31,7 +31,9 @@ pub record Adds (next start after : ℕ) (new : List Production) (then : ℕ) : 
   pub apart : Apart (map serialOf new)
   pub grows : next ≤ then
 
-pub adds : (e : Option (ℕ × ℕ)) (next start after : ℕ) → ((x : ℕ × ℕ) → e ≡ Some x → Emits start after x) → Adds next start after (produced e next) (nextAfter e next)
+pub adds
+    : (e : Option (ℕ × ℕ)) (next start after : ℕ)
+    → ((x : ℕ × ℕ) → e ≡ Some x → Emits start after x) → Adds next start after (produced e next) (nextAfter e next)
 adds None next start after f = record {
   serial = λ p m. absurd m;
   below = λ p m. absurd m;
@@ -55,34 +57,52 @@ adds (Some x) next start after f =
 
 module _ (c : Computation (List ℕ)) (w : ℕ) where
   -- what is known by name stays so over a step that does not lower the mark
-  pub remembers-step : (step : List ℕ × Option (ℕ × ℕ)) (row : Row) (names : List Name) → c .mark (row .state) ≤ c .mark (step .0) → Remembers c w row names → Remembers c w (stepped c w step row) names
+  pub remembers-step
+      : (step : List ℕ × Option (ℕ × ℕ)) (row : Row) (names : List Name)
+      → c .mark (row .state) ≤ c .mark (step .0) → Remembers c w row names → Remembers c w (stepped c w step row) names
   remembers-step step row names rises known n m =
       elim (known n m) [ inl late ↦ inl (omega arith) | inr k ↦ at (leb (floorOf c w (step .0)) (n .time)) refl k ]
     where
-      at : (b : Bool) → leb (floorOf c w (step .0)) (n .time) ≡ b → Mem n (row .names) → (n .time < floorOf c w (step .0)) ⊎ Mem n (stepped c w step row .names)
+      at
+          : (b : Bool)
+          → leb (floorOf c w (step .0)) (n .time) ≡ b → Mem n (row .names)
+          → (n .time < floorOf c w (step .0)) ⊎ Mem n (stepped c w step row .names)
       at true e k = inr (mem-kept n (λ x. leb (floorOf c w (step .0)) (x .time)) (row .names) k e)
       at false e k = inl (leb-false (floorOf c w (step .0)) (n .time) e)
 
   -- and a take adds the name taken
-  pub remembers-take : (r : Record) (row : Row) (names : List Name) → c .mark (row .state) ≤ c .mark (takeOf c w r row .0) → Remembers c w row names → Remembers c w (takenRow c w r row) (names ++ (r .name ∷ []))
+  pub remembers-take
+      : (r : Record) (row : Row) (names : List Name)
+      → c .mark (row .state) ≤ c .mark (takeOf c w r row .0) → Remembers c w row names
+      → Remembers c w (takenRow c w r row) (names ++ (r .name ∷ []))
   remembers-take r row names rises known n m =
-      elim (mem-snoc n (r .name) names m) [ inl k ↦ old (remembers-step (takeOf c w r row) row names rises known n k) | inr e ↦ inr (subst (λ x. Mem x (takenRow c w r row .names)) (sym e) (mem-last (r .name) (stepped c w (takeOf c w r row) row .names))) ]
+      elim (mem-snoc n (r .name) names m)
+      [ inl k ↦ old (remembers-step (takeOf c w r row) row names rises known n k)
+      | inr e ↦ inr (subst (λ x. Mem x (takenRow c w r row .names)) (sym e) (mem-last (r .name) (stepped c w (takeOf c w r row) row .names))) ]
     where
-      old : (n .time < floorOf c w (takeOf c w r row .0)) ⊎ Mem n (stepped c w (takeOf c w r row) row .names) → (n .time < floorOf c w (takeOf c w r row .0)) ⊎ Mem n (takenRow c w r row .names)
+      old
+          : (n .time < floorOf c w (takeOf c w r row .0)) ⊎ Mem n (stepped c w (takeOf c w r row) row .names)
+          → (n .time < floorOf c w (takeOf c w r row .0)) ⊎ Mem n (takenRow c w r row .names)
       old (inl late) = inl late
       old (inr k) = inr (mem-left n (stepped c w (takeOf c w r row) row .names) (r .name ∷ []) k)
 
   -- a record that is let in was not taken before
-  pub not-known : (r : Record) (row : Row) (names : List Name) → Remembers c w row names → Lets c w r row → Mem (r .name) names → ⊥
+  pub not-known
+      : (r : Record) (row : Row) (names : List Name)
+      → Remembers c w row names → Lets c w r row → Mem (r .name) names → ⊥
   not-known r row names known lets m =
       elim (known (r .name) m) [ inl late ↦ omega (arith, lets .floor) | inr k ↦ lets .fresh k ]
 
   -- the names of the row after a take are old ones or the name taken
   pub taken-names : (r : Record) (row : Row) (n : Name) → Mem n (takenRow c w r row .names) → Mem n (row .names) ⊎ (n ≡ r .name)
   taken-names r row n m =
-      elim (mem-snoc n (r .name) (stepped c w (takeOf c w r row) row .names) m) [ inl k ↦ inl (kept-mem n (λ x. leb (floorOf c w (takeOf c w r row .0)) (x .time)) (row .names) k) | inr e ↦ inr e ]
+      elim (mem-snoc n (r .name) (stepped c w (takeOf c w r row) row .names) m)
+      [ inl k ↦ inl (kept-mem n (λ x. leb (floorOf c w (takeOf c w r row .0)) (x .time)) (row .names) k)
+      | inr e ↦ inr e ]
 
-  pub takes-of : (r : Record) (row : Row) → StateBytes (row .state) → w ≤ lastTime → Lets c w r row → Takes c StateBytes (row .state) w (r .name .time) (r .amount)
+  pub takes-of
+      : (r : Record) (row : Row)
+      → StateBytes (row .state) → w ≤ lastTime → Lets c w r row → Takes c StateBytes (row .state) w (r .name .time) (r .amount)
   takes-of r row bytes last lets = record {
     sound = bytes;
     watermark = last;

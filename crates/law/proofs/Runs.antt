@@ -81,9 +81,11 @@ module _ (kits : Kits) (ck : Keeps (kits .collector)) (sk : Keeps (kits .spotter
 
   new-sound : (p : Pair) → New p → Sound c d (worldOf kits [] p)
   new-sound p n =
-      let same : (s : ℕ) → newLane ≡ laneOf kits [] p s = λ s i. record { crow = sym (n .collector .rows s) i; srow = sym (n .spotter .rows s) i; took = []; made = []; landed = [] } in
+      let same : (s : ℕ) → newLane ≡ laneOf kits [] p s =
+          λ s i. record { crow = sym (n .collector .rows s) i; srow = sym (n .spotter .rows s) i; took = []; made = []; landed = [] } in
       record {
-        lanes = λ s h. subst (λ L. Good c d s (p .collector .w) (p .spotter .w) L) (same s) (subst (λ w. Good c d s w (p .spotter .w) newLane) (sym (n .collector .watermark)) (subst (λ w. Good c d s 0 w newLane) (sym (n .spotter .watermark)) (new-good s)));
+        lanes =
+            λ s h. subst (λ L. Good c d s (p .collector .w) (p .spotter .w) L) (same s) (subst (λ w. Good c d s w (p .spotter .w) newLane) (sym (n .collector .watermark)) (subst (λ w. Good c d s 0 w newLane) (sym (n .spotter .watermark)) (new-good s)));
         order = omega (arith, n .spotter .watermark);
         last = omega (arith, n .collector .watermark);
         link = λ m k. absurd (mem-is m (p .link) [] (n .link) k);
@@ -94,38 +96,61 @@ module _ (kits : Kits) (ck : Keeps (kits .collector)) (sk : Keeps (kits .spotter
   run-sound [] p n = new-sound p n
   run-sound (e ∷ es) p r =
       let w = run-sound es (e .before) (r .0) in
-      let next = sound-move c d (ck .lawful) (sk .lawful) (worldOf kits es (e .before)) w (nextWorld kits es (e .before) (deedOf (e .call) (e .before)) (happens kits (e .free) (e .call) (e .before))) (call-moves kits ck sk es (e .before) (e .free) (e .call)) in
-      subst (λ q. Sound c d (worldOf kits (e ∷ es) q)) (r .2) (subst (λ x. Sound c d (nextWorld kits es (e .before) (deedOf (e .call) (e .before)) x)) (r .1) next)
+      let next =
+          sound-move c d
+          (ck .lawful) (sk .lawful) (worldOf kits es (e .before)) w
+          (nextWorld kits es (e .before) (deedOf (e .call) (e .before)) (happens kits (e .free) (e .call) (e .before)))
+          (call-moves kits ck sk es (e .before) (e .free) (e .call)) in
+      subst
+      (λ q. Sound c d (worldOf kits (e ∷ es) q)) (r .2)
+      (subst (λ x. Sound c d (nextWorld kits es (e .before) (deedOf (e .call) (e .before)) x)) (r .1) next)
 
   run-holds : (es : List Event) (p : Pair) → Run kits es p → Holds p
   run-holds [] p n =
       record { collector = λ on. absurd (both-ways (p .collector .power .on) (n .collector .off) on); spotter = λ on. absurd (both-ways (p .spotter .power .on) (n .spotter .off) on) }
   run-holds (e ∷ es) p r =
-      subst Holds (r .2) (subst (λ x. Holds (x .1)) (r .1) (call-holds kits ck sk (e .free) (e .before) (run-holds es (e .before) (r .0)) (e .call)))
+      subst Holds
+      (r .2)
+      (subst (λ x. Holds (x .1)) (r .1) (call-holds kits ck sk (e .free) (e .before) (run-holds es (e .before) (r .0)) (e .call)))
 
   run-fits : (es : List Event) (p : Pair) → Run kits es p → length (p .link) ≤ mostMessages
   run-fits [] p n = let none = ap (λ (xs : List Message). length xs) (n .link) in omega arith
   run-fits (e ∷ es) p r =
-      subst (λ (q : Pair). length (q .link) ≤ mostMessages) (r .2) (subst (λ (x : Outcome × Pair). length (x .1 .link) ≤ mostMessages) (r .1) (call-fits kits (e .free) (e .before) (run-fits es (e .before) (r .0)) (e .call)))
+      subst
+      (λ (q : Pair). length (q .link) ≤ mostMessages) (r .2)
+      (subst (λ (x : Outcome × Pair). length (x .1 .link) ≤ mostMessages) (r .1) (call-fits kits (e .free) (e .before) (run-fits es (e .before) (r .0)) (e .call)))
 
   -- a number below the low watermark stays below it over one more call
-  call-below : (b : ℕ) (e : Event) (es : List Event) (p : Pair) → Run kits (e ∷ es) p → Below c d b (worldOf kits es (e .before)) → Below c d b (worldOf kits (e ∷ es) p)
+  call-below
+      : (b : ℕ) (e : Event) (es : List Event) (p : Pair)
+      → Run kits (e ∷ es) p → Below c d b (worldOf kits es (e .before)) → Below c d b (worldOf kits (e ∷ es) p)
   call-below b e es p r low =
       let w = run-sound es (e .before) (r .0) in
-      let next = below-move c d (ck .lawful) (sk .lawful) (worldOf kits es (e .before)) w b (nextWorld kits es (e .before) (deedOf (e .call) (e .before)) (happens kits (e .free) (e .call) (e .before))) (call-moves kits ck sk es (e .before) (e .free) (e .call)) low in
-      subst (λ q. Below c d b (worldOf kits (e ∷ es) q)) (r .2) (subst (λ x. Below c d b (nextWorld kits es (e .before) (deedOf (e .call) (e .before)) x)) (r .1) next)
+      let next =
+          below-move c d
+          (ck .lawful) (sk .lawful) (worldOf kits es (e .before)) w b
+          (nextWorld kits es (e .before) (deedOf (e .call) (e .before)) (happens kits (e .free) (e .call) (e .before)))
+          (call-moves kits ck sk es (e .before) (e .free) (e .call)) low in
+      subst
+      (λ q. Below c d b (worldOf kits (e ∷ es) q)) (r .2)
+      (subst (λ x. Below c d b (nextWorld kits es (e .before) (deedOf (e .call) (e .before)) x)) (r .1) next)
 
   low-rises : (e : Event) (es : List Event) (p : Pair) → Run kits (e ∷ es) p → lowWatermark kits (e .before) ≤ lowWatermark kits p
   low-rises e es p r =
       let b = lowWatermark kits (e .before) in
       let l = low-tells c (e .before .collector .row) (e .before .collector .w) b (le-refl b) in
       let after = call-below b e es p r (record { watermark = l .watermark; pending = l .pending; dues = l .dues }) in
-      low-from c (p .collector .row) (p .collector .w) b (record { watermark = after .watermark; pending = after .pending; dues = after .dues })
+      low-from c
+      (p .collector .row) (p .collector .w) b
+      (record { watermark = after .watermark; pending = after .pending; dues = after .dues })
 
-  never-falls : (es : List Event) (p : Pair) → Run kits es p → (q : Pair) → Mem q (moments es p) → lowWatermark kits q ≤ lowWatermark kits p
+  never-falls
+      : (es : List Event) (p : Pair)
+      → Run kits es p → (q : Pair) → Mem q (moments es p) → lowWatermark kits q ≤ lowWatermark kits p
   never-falls [] p r q (inl e) = subst (λ x. lowWatermark kits q ≤ lowWatermark kits x) e (le-refl (lowWatermark kits q))
   never-falls [] p r q (inr m) = absurd m
-  never-falls (e ∷ es) p r q (inl same) = subst (λ x. lowWatermark kits q ≤ lowWatermark kits x) same (le-refl (lowWatermark kits q))
+  never-falls (e ∷ es) p r q (inl same) =
+      subst (λ x. lowWatermark kits q ≤ lowWatermark kits x) same (le-refl (lowWatermark kits q))
   never-falls (e ∷ es) p r q (inr m) =
       let a = never-falls es (e .before) (r .0) q m in
       let b = low-rises e es p r in
@@ -141,7 +166,10 @@ serial-mem : (n : ℕ) (ps : List Production) → hasSerial n ps ≡ true → Me
 serial-mem n [] e = absurd (false≢true e)
 serial-mem n (p ∷ ps) e = at (eqb (p .serial) n) refl e (serial-mem n ps)
   where
-    at : (b : Bool) → eqb (p .serial) n ≡ b → (b || hasSerial n ps) ≡ true → (hasSerial n ps ≡ true → Mem n (map serialOf ps)) → Mem n (map serialOf (p ∷ ps))
+    at
+        : (b : Bool)
+        → eqb (p .serial) n ≡ b → (b || hasSerial n ps) ≡ true → (hasSerial n ps ≡ true → Mem n (map serialOf ps))
+        → Mem n (map serialOf (p ∷ ps))
     at true t h below = inl (sym (eqb-true (p .serial) n t))
     at false t h below = inr (below h)
 
@@ -153,32 +181,42 @@ unlanded n ps f = at (hasSerial n ps) refl
     at false e = refl
 
 -- what is pending and has not landed is what waits
-pub waits-is : (made landed waits pending : List Production) (next : ℕ) → Line made landed waits pending next → kept-by (λ x. not (hasSerial (x .serial) landed)) pending ≡ waits
+pub waits-is
+    : (made landed waits pending : List Production) (next : ℕ)
+    → Line made landed waits pending next → kept-by (λ x. not (hasSerial (x .serial) landed)) pending ≡ waits
 waits-is made landed waits pending next l = at (l .front)
   where
     parted : Apart (map serialOf landed ++ map serialOf waits)
     parted = subst (λ ns. Apart ns) (ap (λ xs. map serialOf xs) (l .order) ∙ map-++ serialOf landed waits) (l .serials)
 
     all : kept-by (λ x. not (hasSerial (x .serial) landed)) waits ≡ waits
-    all = kept-all (λ x. not (hasSerial (x .serial) landed)) waits (λ x m. unlanded (x .serial) landed (λ k. apart-split (x .serial) (map serialOf landed) (map serialOf waits) parted k (mem-map serialOf x waits m)))
+    all =
+        kept-all
+        (λ x. not (hasSerial (x .serial) landed)) waits
+        (λ x m. unlanded (x .serial) landed (λ k. apart-split (x .serial) (map serialOf landed) (map serialOf waits) parted k (mem-map serialOf x waits m)))
 
     at : Front pending waits landed → kept-by (λ x. not (hasSerial (x .serial) landed)) pending ≡ waits
     at (inl e) = ap (λ xs. kept-by (λ x. not (hasSerial (x .serial) landed)) xs) e ∙ all
     at (inr f) =
-        ap (λ xs. kept-by (λ x. not (hasSerial (x .serial) landed)) xs) (f .1) ∙ (ap (λ b. cond b (f .0 ∷ kept-by (λ x. not (hasSerial (x .serial) landed)) waits) (kept-by (λ x. not (hasSerial (x .serial) landed)) waits)) (not-from-true (hasSerial (f .0 .serial) landed) (mem-serial (f .0 .serial) landed (mem-map serialOf (f .0) landed (f .2)))) ∙ all)
+        ap (λ xs. kept-by (λ x. not (hasSerial (x .serial) landed)) xs) (f .1) ∙
+        (ap (λ b. cond b (f .0 ∷ kept-by (λ x. not (hasSerial (x .serial) landed)) waits) (kept-by (λ x. not (hasSerial (x .serial) landed)) waits)) (not-from-true (hasSerial (f .0 .serial) landed) (mem-serial (f .0 .serial) landed (mem-map serialOf (f .0) landed (f .2)))) ∙ all)
 
 module _ (kits : Kits) (ck : Keeps (kits .collector)) (sk : Keeps (kits .spotter)) where
   pub law : (es : List Event) (p : Pair) → Run kits es p → Law kits es p
   law es p r =
       let w = run-sound kits ck sk es p r in
-      let good : (s : ℕ) → s < stops → Good (kits .collector .computation) (kits .spotter .computation) s (p .collector .w) (p .spotter .w) (laneOf kits es p s) = w .lanes in
-      let waits : (s : ℕ) (h : s < stops) → waiting kits s es p ≡ good s h .waits = λ s h. waits-is (laneOf kits es p s .made) (landed kits s es) (good s h .waits) (p .collector .row s .pending) (p .collector .row s .next) (good s h .line) in
+      let good : (s : ℕ) → s < stops → Good (kits .collector .computation) (kits .spotter .computation) s (p .collector .w) (p .spotter .w) (laneOf kits es p s) =
+          w .lanes in
+      let waits : (s : ℕ) (h : s < stops) → waiting kits s es p ≡ good s h .waits =
+          λ s h. waits-is (laneOf kits es p s .made) (landed kits s es) (good s h .waits) (p .collector .row s .pending) (p .collector .row s .next) (good s h .line) in
       record {
         names-once = λ s h. good s h .names .once;
         in-order = λ s h. ap (λ xs. landed kits s es ++ xs) (waits s h) ∙ sym (good s h .line .order);
         serials-once = λ s h. good s h .line .serials;
         never-falls = never-falls kits ck sk es p r;
-        none-late = λ s x h m. let k = mem-is x (waiting kits s es p) (good s h .waits) (waits s h) m in omega (arith, good s h .times .spotted x k, good s h .times .passed x k);
+        none-late =
+            λ s x h m. let k =
+                mem-is x (waiting kits s es p) (good s h .waits) (waits s h) m in omega (arith, good s h .times .spotted x k, good s h .times .passed x k);
         link-fits = run-fits kits ck sk es p r;
         queued = run-holds kits ck sk es p r .collector;
       }

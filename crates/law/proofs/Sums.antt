@@ -60,7 +60,9 @@ sum-one k a (suc n) h = elim (cases-eq k n) [ inl e ↦ last e | inr ne ↦ befo
         let here : cond (eqb k n) a 0 ≡ a = ap (λ b. cond b a 0) (eq-eqb k n e) in
         omega arith
 
-    before : (k ≡ n → ⊥) → sumBelow (λ s. cond (eqb k s) a 0) n ≡ a → sumBelow (λ s. cond (eqb k s) a 0) n + cond (eqb k n) a 0 ≡ a
+    before
+        : (k ≡ n → ⊥)
+        → sumBelow (λ s. cond (eqb k s) a 0) n ≡ a → sumBelow (λ s. cond (eqb k s) a 0) n + cond (eqb k n) a 0 ≡ a
     before ne below =
         let here : cond (eqb k n) a 0 ≡ 0 = ap (λ b. cond b a 0) (ne-eqb k n ne) in
         omega arith
@@ -73,13 +75,18 @@ abbrev at : ℕ → List Record → List Record
 at s rs = kept-by (λ r. eqb (r .stop) s) rs
 
 -- records by their stops are all the records
-pub sum-by-stop : (n : ℕ) (rs : List Record) → ((r : Record) → Mem r rs → r .stop < n) → sumBelow (λ s. amounts (at s rs)) n ≡ amounts rs
+pub sum-by-stop
+    : (n : ℕ) (rs : List Record)
+    → ((r : Record) → Mem r rs → r .stop < n) → sumBelow (λ s. amounts (at s rs)) n ≡ amounts rs
 sum-by-stop n [] f = sum-none n
 sum-by-stop n (r ∷ rs) f =
     let below = sum-by-stop n rs (λ x m. f x (inr m)) in
     let here = sum-one (r .stop) (r .amount) n (f r (inl refl)) in
     let both = sum-plus (λ s. cond (eqb (r .stop) s) (r .amount) 0) (λ s. amounts (at s rs)) n in
-    let split = sum-same (λ s. amounts (at s (r ∷ rs))) (λ s. cond (eqb (r .stop) s) (r .amount) 0 + amounts (at s rs)) n (λ s h. parts s (eqb (r .stop) s)) in
+    let split =
+        sum-same
+        (λ s. amounts (at s (r ∷ rs))) (λ s. cond (eqb (r .stop) s) (r .amount) 0 + amounts (at s rs)) n
+        (λ s h. parts s (eqb (r .stop) s)) in
     omega arith
   where
     parts : (s : ℕ) (b : Bool) → amounts (cond b (r ∷ at s rs) (at s rs)) ≡ cond b (r .amount) 0 + amounts (at s rs)

@@ -12,11 +12,15 @@ use Rattle.law.proofs.Runs.{every-run}
 module _ (kits : Kits) (ck : Keeps (kits .collector)) (sk : Keeps (kits .spotter)) (es : List Event) where
   pub told-none : (p : Pair) → Run kits es p → Told kits es [] [] es p
   told-none p r = record {
-    goes = record { run = r; since = ([], refl); calls-are = sym (append-nil (callsOf es)); outcomes-are = sym (append-nil (outcomesOf es)) };
+    goes =
+        record { run = r; since = ([], refl); calls-are = sym (append-nil (callsOf es)); outcomes-are = sym (append-nil (outcomesOf es)) };
     lawful = every-run kits ck sk es p r;
   }
 
-  pub told-more : (calls : List Call) (outcomes : List Outcome) (fs : List Event) (q : Pair) → Told kits es calls outcomes fs q → (e : Event) → Happened kits e → e .before ≡ q → Told kits es (calls ++ (e .call ∷ [])) (outcomes ++ (e .outcome ∷ [])) (e ∷ fs) (e .after)
+  pub told-more
+      : (calls : List Call) (outcomes : List Outcome) (fs : List Event) (q : Pair)
+      → Told kits es calls outcomes fs q → (e : Event) → Happened kits e → e .before ≡ q
+      → Told kits es (calls ++ (e .call ∷ [])) (outcomes ++ (e .outcome ∷ [])) (e ∷ fs) (e .after)
   told-more calls outcomes fs q t e happened before =
       let r : Run kits (e ∷ fs) (e .after) = (subst (λ p. Run kits fs p) (sym before) (t .goes .run), happened, refl) in
       let since = t .goes .since in
@@ -25,7 +29,9 @@ module _ (kits : Kits) (ck : Keeps (kits .collector)) (sk : Keeps (kits .spotter
           run = r;
           since = (e ∷ since .0, ap (λ xs. e ∷ xs) (since .1));
           calls-are = ap (λ xs. xs ++ (e .call ∷ [])) (t .goes .calls-are) ∙ append-assoc (callsOf es) calls (e .call ∷ []);
-          outcomes-are = ap (λ xs. xs ++ (e .outcome ∷ [])) (t .goes .outcomes-are) ∙ append-assoc (outcomesOf es) outcomes (e .outcome ∷ []);
+          outcomes-are =
+              ap (λ xs. xs ++ (e .outcome ∷ [])) (t .goes .outcomes-are) ∙
+              append-assoc (outcomesOf es) outcomes (e .outcome ∷ []);
         };
         lawful = every-run kits ck sk (e ∷ fs) (e .after) r;
       }

@@ -22,7 +22,9 @@ pub record FirstDue (c : Computation (List ℕ)) (rows : ℕ → Row) (s t : ℕ
 pub record Crowd (rows : ℕ → Row) (s : ℕ) (x : Production) : Type 0 where
   pub stop : s < stops
   pub oldest-is : oldest (rows s .pending) ≡ Some x
-  pub greatest-is : (q : ℕ) (y : Production) → q < stops → oldest (rows q .pending) ≡ Some y → (y .amount < x .amount) ⊎ ((y .amount ≡ x .amount) × (s ≤ q))
+  pub greatest-is
+      : (q : ℕ) (y : Production)
+      → q < stops → oldest (rows q .pending) ≡ Some y → (y .amount < x .amount) ⊎ ((y .amount ≡ x .amount) × (s ≤ q))
 
 -- a number is at most the watermark, all pending times and all dues of the stops below a number
 pub record Lows (c : Computation (List ℕ)) (rows : ℕ → Row) (w b n : ℕ) : Type 0 where

@@ -33,7 +33,10 @@ pub record Law (kits : Kits) (es : List Event) (p : Pair) : Type 0 where
   -- the low watermark is not below what it was at any earlier moment
   pub never-falls : (q : Pair) → Mem q (moments es p) → lowWatermark kits q ≤ lowWatermark kits p
   -- no waiting production is late at the spotter
-  pub none-late : (s : ℕ) (x : Production) → s < stops → Mem x (waiting kits s es p) → floorOf (kits .spotter .computation) (p .spotter .w) (p .spotter .row s .state) ≤ x .time
+  pub none-late
+      : (s : ℕ) (x : Production)
+      → s < stops → Mem x (waiting kits s es p)
+      → floorOf (kits .spotter .computation) (p .spotter .w) (p .spotter .row s .state) ≤ x .time
   -- the link holds no more messages than it may
   pub link-fits : length (p .link) ≤ mostMessages
   -- while the collector is on, its queue holds exactly the stops with something pending, each once
@@ -79,7 +82,8 @@ Every-count Asked Holding Totalling =
     (es : List Event) (p : Pair) → Run kits es p → Throughout (Counted kits held landed) es p
 
 -- a run from a new pair goes on by more calls, with the law at its every moment
-pub record Told (kits : Kits) (es : List Event) (calls : List Call) (outcomes : List Outcome) (fs : List Event) (q : Pair) : Type 0 where
+pub record Told
+    (kits : Kits) (es : List Event) (calls : List Call) (outcomes : List Outcome) (fs : List Event) (q : Pair) : Type 0 where
   pub goes : Goes kits es calls outcomes fs q
   pub lawful : Throughout (Law kits) fs q
 

@@ -145,7 +145,8 @@ abbrev pub happens : Kits → Free → Call → Pair → Outcome × Pair
 happens kits free (HandIn r) p = atCollector (handIn (kits .collector) free r (p .collector)) p
 happens kits free (Advance t) p = atCollector (advance (kits .collector) free t (p .collector)) p
 happens kits free (Fire node) p =
-    atNode node (atCollector (fire (kits .collector) free (p .collector)) p) (atSpotter (fire (kits .spotter) free (p .spotter)) p) p
+    atNode node
+    (atCollector (fire (kits .collector) free (p .collector)) p) (atSpotter (fire (kits .spotter) free (p .spotter)) p) p
 happens kits free Send p = send p
 happens kits free (Lose place) p = lose place p
 happens kits free (Repeat place) p = repeat place p

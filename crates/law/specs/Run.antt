@@ -74,7 +74,8 @@ outcomesOf [] = []
 outcomesOf (e ∷ es) = outcomesOf es ++ (e .outcome ∷ [])
 
 -- a run goes on: these calls, in order, have these outcomes and lead to this pair
-pub record Goes (kits : Kits) (es : List Event) (calls : List Call) (outcomes : List Outcome) (fs : List Event) (q : Pair) : Type 0 where
+pub record Goes
+    (kits : Kits) (es : List Event) (calls : List Call) (outcomes : List Outcome) (fs : List Event) (q : Pair) : Type 0 where
   pub run : Run kits fs q
   pub since : (later : List Event) × (fs ≡ later ++ es)
   pub calls-are : callsOf fs ≡ callsOf es ++ calls

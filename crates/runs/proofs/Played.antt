@@ -27,7 +27,9 @@ new-pair = record {
   link = refl;
 }
 
-play-on-run : (rules : Rules) (es : List Event) (p : Pair) (calls : List Call) → RunBy rules es p → RunBy rules (playOn rules es p calls .0) (playOn rules es p calls .1)
+play-on-run
+    : (rules : Rules) (es : List Event) (p : Pair) (calls : List Call)
+    → RunBy rules es p → RunBy rules (playOn rules es p calls .0) (playOn rules es p calls .1)
 unfolding playOn
 play-on-run rules es p [] r = r
 play-on-run rules es p (c ∷ cs) r =
@@ -100,7 +102,8 @@ dueless-calls = on (HandIn (asked 3 1 30 12) ∷ Advance 100 ∷ Pass ∷ Fire 0
 
 dueless-broken : Law counting (play (dueless counting) dueless-calls .0) (play (dueless counting) dueless-calls .1) → ⊥
 unfolding playOn firstBest lowBelow pendingBelow earliestFrom dueless-calls
-dueless-broken law = let late : 100 ≤ 60 = law .none-late 3 (record { serial = 0; time = 60; amount = 12 }) (omega arith) (inl refl) in omega arith
+dueless-broken law =
+    let late : 100 ≤ 60 = law .none-late 3 (record { serial = 0; time = 60; amount = 12 }) (omega arith) (inl refl) in omega arith
 
 pub dueless-breaks : Breaks counting (dueless counting)
 dueless-breaks = record {

@@ -44,7 +44,8 @@ abbrev pub receiveHastily : Kits → Free → ℕ → Option Message → Pair �
 receiveHastily kits free place None p = (Plain NoMessage, p)
 receiveHastily kits free place (Some (Produced s x)) p = happens kits free (Deliver place) p
 receiveHastily kits free place (Some (Acknowledged s serial)) p =
-    atCollector (clearAny (kits .collector) free s (p .collector .row s .pending) (p .collector)) (withLink (removed (p .link) place) p)
+    atCollector
+    (clearAny (kits .collector) free s (p .collector .row s .pending) (p .collector)) (withLink (removed (p .link) place) p)
 
 abbrev pub hasty : Kits → Rules
 hasty kits free (HandIn r) p = happens kits free (HandIn r) p
@@ -71,7 +72,8 @@ forgetfulRow c w r row =
 
 abbrev pub takeForgetfully : Kit → Free → Record → Answer → Node → Answer × Node
 takeForgetfully kit free r answer n =
-    cond (isDone answer) (commitRow kit free (r .stop) (forgetfulRow (kit .computation) (n .w) r (n .row (r .stop))) n) (answer, n)
+    cond
+    (isDone answer) (commitRow kit free (r .stop) (forgetfulRow (kit .computation) (n .w) r (n .row (r .stop))) n) (answer, n)
 
 abbrev pub forgetful : Kits → Rules
 forgetful kits free (HandIn r) p =
