@@ -76,9 +76,10 @@ module _ {X : Type 0} (beats : X → X → Bool) (at : ℕ → Option X) where
     where
       none : s < 0 → ⊥
       none k = omega arith
-  best-found (suc n) s x h b = elim (cases-eq s n)
-      [ inl e ↦ here e
-      | inr ne ↦ there (less s n h ne) (best-found n s x (less s n h ne) below) (at n) refl ]
+  best-found (suc n) s x h b = elim (cases-eq s n) [
+    | inl e ↦ here e
+    | inr ne ↦ there (less s n h ne) (best-found n s x (less s n h ne) below) (at n) refl
+  ]
     where
       below : Best s x n
       below = record { stands = b .stands; before = b .before; after = λ q y l k e. b .after q y l (omega arith) e }
@@ -105,12 +106,14 @@ earliest-is c rows s t f =
     best-found (λ d e. ltb d e) (λ q. c .due (rows q .state)) stops s t (f .stop)
     (record {
       stands = f .due;
-      before = λ q y l e. elim (f .first q y (under q l (f .stop)) e)
-          [ inl lt ↦ lt-ltb t y lt
-          | inr same ↦ absurd (wrong q (same .1) l) ];
-      after = λ q y l k e. elim (f .first q y k e)
-          [ inl lt ↦ le-ltb y t (omega arith)
-          | inr same ↦ le-ltb y t (omega (arith, same .0)) ];
+      before = λ q y l e. elim (f .first q y (under q l (f .stop)) e) [
+        | inl lt ↦ lt-ltb t y lt
+        | inr same ↦ absurd (wrong q (same .1) l)
+      ];
+      after = λ q y l k e. elim (f .first q y k e) [
+        | inl lt ↦ le-ltb y t (omega arith)
+        | inr same ↦ le-ltb y t (omega (arith, same .0))
+      ];
     })
   where
     wrong : (q : ℕ) → s ≤ q → q < s → ⊥
@@ -130,12 +133,14 @@ greatest-is rows s x f =
     best-found (λ p q. ltb (q .amount) (p .amount)) (λ q. oldest (rows q .pending)) stops s x (f .stop)
     (record {
       stands = f .oldest-is;
-      before = λ q y l e. elim (f .greatest-is q y (under q l (f .stop)) e)
-          [ inl lt ↦ lt-ltb (y .amount) (x .amount) lt
-          | inr same ↦ absurd (wrong q (same .1) l) ];
-      after = λ q y l k e. elim (f .greatest-is q y k e)
-          [ inl lt ↦ le-ltb (x .amount) (y .amount) (omega arith)
-          | inr same ↦ le-ltb (x .amount) (y .amount) (omega (arith, same .0)) ];
+      before = λ q y l e. elim (f .greatest-is q y (under q l (f .stop)) e) [
+        | inl lt ↦ lt-ltb (y .amount) (x .amount) lt
+        | inr same ↦ absurd (wrong q (same .1) l)
+      ];
+      after = λ q y l k e. elim (f .greatest-is q y k e) [
+        | inl lt ↦ le-ltb (x .amount) (y .amount) (omega arith)
+        | inr same ↦ le-ltb (x .amount) (y .amount) (omega (arith, same .0))
+      ];
     })
   where
     wrong : (q : ℕ) → s ≤ q → q < s → ⊥
@@ -176,12 +181,14 @@ module _ (c : Computation (List ℕ)) (rows : ℕ → Row) (w b : ℕ) where
       let rest = below (times .0) in
       record {
         watermark = rest .watermark;
-        pending = λ s l p m. elim (cases-eq s n)
-            [ inl e ↦ times .1 p (subst (λ k. Mem p (rows k .pending)) e m)
-            | inr ne ↦ rest .pending s (less s n l ne) p m ];
-        dues = λ s l. elim (cases-eq s n)
-            [ inl e ↦ subst (λ k. Upto b (c .due (rows k .state))) (sym e) (due .1)
-            | inr ne ↦ rest .dues s (less s n l ne) ];
+        pending = λ s l p m. elim (cases-eq s n) [
+          | inl e ↦ times .1 p (subst (λ k. Mem p (rows k .pending)) e m)
+          | inr ne ↦ rest .pending s (less s n l ne) p m
+        ];
+        dues = λ s l. elim (cases-eq s n) [
+          | inl e ↦ subst (λ k. Upto b (c .due (rows k .state))) (sym e) (due .1)
+          | inr ne ↦ rest .dues s (less s n l ne)
+        ];
       }
 
   lows-below : (n : ℕ) → b ≤ lowBelow c rows w n → Lows c rows w b n

@@ -74,10 +74,11 @@ module _ (kits : Kits) (ck : Keeps (kits .collector)) (sk : Keeps (kits .spotter
       → (Mem x (p .link) ⊎ News (laneOf kits es p) x) → (m : Message) → Mem m (p .link ++ (x ∷ []))
       → Mem m (p .link) ⊎ News (laneOf kits es p) m
   joined x f m k =
-      elim (mem-split m (p .link) (x ∷ []) k)
-      [ inl old ↦ inl old
-      | inr (inl e) ↦ subst (λ y. Mem y (p .link) ⊎ News (laneOf kits es p) y) (sym e) f
-      | inr (inr b) ↦ absurd b ]
+      elim (mem-split m (p .link) (x ∷ []) k) [
+        | inl old ↦ inl old
+        | inr (inl e) ↦ subst (λ y. Mem y (p .link) ⊎ News (laneOf kits es p) y) (sym e) f
+        | inr (inr b) ↦ absurd b
+      ]
 
   send-from-moves : (s : ℕ) (o : Option Production) → oldest (p .collector .row s .pending) ≡ o → After other (sendFrom s o p)
   send-from-moves s None e = none

@@ -95,10 +95,10 @@ module _ (kits : Kits) (ck : Keeps (kits .collector)) (es : List Event) (p : Pai
       → Moves (world (withRow s new rows) T (grew (withRow s new rows)) (p .link))
   grows-at s new T x tk h grows step here there =
       let add : grew (withRow s new rows) s ≡ x =
-          ap (λ (r : Row). drop (length (rows s .pending)) (r .pending)) (row-at s new rows) ∙
-          (ap (λ xs. drop (length (rows s .pending)) xs) grows ∙ drop-length (rows s .pending) x) in
+      ap (λ (r : Row). drop (length (rows s .pending)) (r .pending)) (row-at s new rows) ∙
+      (ap (λ xs. drop (length (rows s .pending)) xs) grows ∙ drop-length (rows s .pending) x) in
       let to : Lane =
-          record { crow = new; srow = p .spotter .row s; took = tk; made = made kits s es ++ x; landed = landed kits s es } in
+      record { crow = new; srow = p .spotter .row s; took = tk; made = made kits s es ++ x; landed = landed kits s es } in
       stop s h
       (subst (λ L. Steps s L) (sym (lane-path to (row-at s new rows) refl here (ap (λ xs. made kits s es ++ xs) add) (append-nil (landed kits s es)))) step)
       (λ q ne. lane-path (laneOf kits es p q) (row-off s q new rows ne) refl (there q ne)
@@ -124,7 +124,7 @@ module _ (kits : Kits) (ck : Keeps (kits .collector)) (es : List Event) (p : Pai
       → tookAt s (T true) ≡ tk
       → ((q : ℕ) → (q ≡ s → ⊥) → tookAt q (T true) ≡ taken kits q es)
       → let crow = rowsBy (renewed (kits .collector .turn) (p .collector .power)) s new in
-        Moves (world crow (T (did free)) (λ q. cond (did free) (grew crow q) []) (p .link))
+      Moves (world crow (T (did free)) (λ q. cond (did free) (grew crow q) []) (p .link))
   commit-grows free s new T x tk none h grows step here there =
       subst
       (λ b. Moves (world (rowsBy b s new) (T (did free)) (λ q. cond (did free) (grew (rowsBy b s new) q) []) (p .link)))
@@ -226,7 +226,7 @@ module _ (kits : Kits) (ck : Keeps (kits .collector)) (es : List Event) (p : Pai
   cleared false s x rest link h head m left = quiet [] (λ q. []) link refl (λ q. refl) left
   cleared true s x rest link h head m left =
       let to : Lane =
-          record { crow = clearedRow (rows s); srow = p .spotter .row s; took = taken kits s es; made = made kits s es; landed = landed kits s es } in
+      record { crow = clearedRow (rows s); srow = p .spotter .row s; took = taken kits s es; made = made kits s es; landed = landed kits s es } in
       stop s h
       (subst (λ L. Steps s L) (sym (lane-path to (row-at s (clearedRow (rows s)) rows) refl (took-none kits es p s [] refl) (append-nil (made kits s es)) (append-nil (landed kits s es)))) (Step.clears x rest head m))
       (λ q ne. lane-path (laneOf kits es p q) (row-off s q (clearedRow (rows s)) rows ne) refl (took-none kits es p q [] refl) (append-nil (made kits q es)) (append-nil (landed kits q es)))

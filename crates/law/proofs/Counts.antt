@@ -51,8 +51,8 @@ weight-++ xs ys =
 amounts-snoc : (rs : List Record) (r : Record) → amounts (rs ++ (r ∷ [])) ≡ amounts rs + r .amount
 amounts-snoc rs r =
     let e =
-        ap (λ ns. total ns) (map-++ (λ (x : Record). x .amount) rs (r ∷ [])) ∙
-        total-++ (map (λ x. x .amount) rs) (r .amount ∷ []) in
+    ap (λ ns. total ns) (map-++ (λ (x : Record). x .amount) rs (r ∷ [])) ∙
+    total-++ (map (λ x. x .amount) rs) (r .amount ∷ []) in
     omega arith
 
 weight-produced : (e : Option (ℕ × ℕ)) (n : ℕ) → weight (produced e n) ≡ emitted e
@@ -108,9 +108,10 @@ module _
   move-balanced W W′ w (advances same up last sw link) b q k = same-balanced W W′ same b q k
   move-balanced W W′ w (passes same cw up low link) b q k = same-balanced W W′ same b q k
   move-balanced W W′ w (stop s h step others cw sw link) b q k =
-      elim (cases-eq q s)
-      [ inl e ↦ subst (λ x. Balanced (W′ .lane x)) (sym e) (step-balanced s (W .cw) (W .sw) (w .order) (w .last) (W .link) (W .lane s) (W′ .lane s) (w .lanes s h) step (b s h))
-      | inr ne ↦ subst Balanced (sym (others q ne)) (b q k) ]
+      elim (cases-eq q s) [
+        | inl e ↦ subst (λ x. Balanced (W′ .lane x)) (sym e) (step-balanced s (W .cw) (W .sw) (w .order) (w .last) (W .link) (W .lane s) (W′ .lane s) (w .lanes s h) step (b s h))
+        | inr ne ↦ subst Balanced (sym (others q ne)) (b q k)
+      ]
 
 module _
     (kits : Kits) (ck : Keeps (kits .collector)) (sk : Keeps (kits .spotter)) (held weighed : List ℕ → ℕ)
@@ -138,10 +139,10 @@ module _
       let w = run-sound kits ck sk es (e .before) (r .0) in
       let r′ = happens kits (e .free) (e .call) (e .before) in
       let next =
-          move-balanced c d
-          (ck .lawful) (sk .lawful) held weighed cs ts (worldOf kits es (e .before))
-          (nextWorld kits es (e .before) (deedOf (e .call) (e .before)) r′) w
-          (call-moves kits ck sk es (e .before) (e .free) (e .call)) (run-balanced es (e .before) (r .0)) in
+      move-balanced c d
+      (ck .lawful) (sk .lawful) held weighed cs ts (worldOf kits es (e .before))
+      (nextWorld kits es (e .before) (deedOf (e .call) (e .before)) r′) w
+      (call-moves kits ck sk es (e .before) (e .free) (e .call)) (run-balanced es (e .before) (r .0)) in
       subst
       (λ q. (s : ℕ) → s < stops → BalancedAt (laneOf kits (e ∷ es) q s)) (r .2)
       (subst (λ x. (s : ℕ) → s < stops → BalancedAt (nextWorld kits es (e .before) (deedOf (e .call) (e .before)) x .lane s)) (r .1) next) s h
@@ -180,9 +181,9 @@ module _
   by-call e (HandIn r) x m happened =
       let o = one (collectorWrote kits e) r x m in
       let did : wrote (kits .collector) (e .before .collector .power) (handIn (kits .collector) (e .free) r (e .before .collector) .0) ≡ true =
-          subst
-          (λ (y : Outcome × Pair). wrote (kits .collector) (e .before .collector .power) (outcomeAnswer (y .0)) ≡ true)
-          (sym happened) (o .1) in
+      subst
+      (λ (y : Outcome × Pair). wrote (kits .collector) (e .before .collector .power) (outcomeAnswer (y .0)) ≡ true)
+      (sym happened) (o .1) in
       subst (λ y. y .stop < stops) (sym (o .0)) (hand-in-range (e .before) (e .free) r did)
   by-call e (Advance t) x m happened = absurd m
   by-call e (Fire node) x m happened = absurd (none (eqb node 0) m)
@@ -207,9 +208,10 @@ module _
   taken-in-range : (es : List Event) (p : Pair) → Run kits es p → (x : Record) → Mem x (allTaken kits es) → x .stop < stops
   taken-in-range [] p r x m = absurd m
   taken-in-range (e ∷ es) p r x m =
-      elim (mem-split x (allTaken kits es) (takenAs (collectorWrote kits e) (deedOf (e .call) (e .before))) m)
-      [ inl k ↦ taken-in-range es (e .before) (r .0) x k
-      | inr k ↦ by-call e (e .call) x k (r .1) ]
+      elim (mem-split x (allTaken kits es) (takenAs (collectorWrote kits e) (deedOf (e .call) (e .before))) m) [
+        | inl k ↦ taken-in-range es (e .before) (r .0) x k
+        | inr k ↦ by-call e (e .call) x k (r .1)
+      ]
 
   counted : (es : List Event) (p : Pair) → Run kits es p → Counted kits held weighed es p
   counted es p r =
@@ -220,8 +222,8 @@ module _
       let land = λ (s : ℕ). weighed (p .spotter .row s .state) in
       let all = sum-by-stop stops (allTaken kits es) (taken-in-range es p r) in
       let each =
-          sum-same
-          (λ s. amounts (taken kits s es)) (λ s. (open′ s + wait s) + land s) stops (λ s h. at s h (w .lanes s h) (b s h)) in
+      sum-same
+      (λ s. amounts (taken kits s es)) (λ s. (open′ s + wait s) + land s) stops (λ s h. at s h (w .lanes s h) (b s h)) in
       let one′ = sum-plus (λ s. open′ s + wait s) land stops in
       let two = sum-plus open′ wait stops in
       omega arith
@@ -233,7 +235,7 @@ module _
       at s h g b =
           let line = ap weight (g .line .order) ∙ weight-++ (landed kits s es) (g .waits) in
           let waits =
-              ap weight (waits-is (made kits s es) (landed kits s es) (g .waits) (p .collector .row s .pending) (p .collector .row s .next) (g .line)) in
+          ap weight (waits-is (made kits s es) (landed kits s es) (g .waits) (p .collector .row s .pending) (p .collector .row s .next) (g .line)) in
           let t = b .taken in
           let l = b .landed in
           omega arith

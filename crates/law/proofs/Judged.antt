@@ -184,9 +184,9 @@ module _ (c : Computation (List ℕ)) (on : Bool) (w : ℕ) (r : Record) (row : 
       from : isSeen (admitted c on w r row) ≡ true → (r .stop < stops) × Mem (r .name) (row .names)
       from h =
           let p =
-              admission-seen
-              (inRange r) on (ltb (r .name .time) (floorOf c w (row .state))) (seen (r .name) (row .names))
-              (c .verdict (row .state) w (r .name .time) (r .amount)) h in
+          admission-seen
+          (inRange r) on (ltb (r .name .time) (floorOf c w (row .state))) (seen (r .name) (row .names))
+          (c .verdict (row .state) w (r .name .time) (r .amount)) h in
           let rest = leb (r .name .time) lastTime && (ltb 0 (r .amount) && leb (r .amount) mostAmount) in
           (ltb-true (r .stop) stops (and-parts (ltb (r .stop) stops) rest (p .0) .0), seen-mem (r .name) (row .names) (p .1))
 

@@ -18,3 +18,4 @@ pub mod Runs
 pub mod Sums
 pub mod Counts
 pub mod Telling
+pub mod Fitting

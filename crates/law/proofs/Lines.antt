@@ -50,9 +50,10 @@ module _ (made landed waits pending new : List Production) (next then start afte
     rise = rising-join waits new (t .rise) (a .rise) (λ x y m n. omega (arith, t .marked x m, a .time y n));
     marked = λ p m. elim (mem-split p waits new m) [ inl k ↦ omega (arith, t .marked p k) | inr k ↦ omega (arith, a .time p k) ];
     passed = λ p m. elim (mem-split p waits new m) [ inl k ↦ t .passed p k | inr k ↦ omega (arith, a .reached p k) ];
-    spotted = λ p m. elim (mem-split p waits new m)
-        [ inl k ↦ t .spotted p k
-        | inr k ↦ omega (arith, a .reached p k, a .time p k, t .bound) ];
+    spotted = λ p m. elim (mem-split p waits new m) [
+      | inl k ↦ t .spotted p k
+      | inr k ↦ omega (arith, a .reached p k, a .time p k, t .bound)
+    ];
     bound = omega (arith, t .bound);
     last = last;
   }

@@ -34,9 +34,10 @@ use Rattle.law.proofs.Next.{none-some}
 
 -- what stands at a place is there
 place-there : {X : Type 0} (x : X) (xs : List X) (i : ℕ) → nth xs i ≡ Some x → i < length xs
-place-there x xs i e = elim (cases-lt i (length xs))
-    [ inl lt ↦ lt
-    | inr le ↦ absurd (none-some x (let n = nth-past xs i le in cc)) ]
+place-there x xs i e = elim (cases-lt i (length xs)) [
+  | inl lt ↦ lt
+  | inr le ↦ absurd (none-some x (let n = nth-past xs i le in cc))
+]
 
 reply-short : (s n : ℕ) (a : Answer) → length (reply s n a) ≤ 1
 reply-short s n a =

@@ -70,14 +70,16 @@ module _ (c d : Computation (List ℕ)) (cl : Lawful c StateBytes) (dl : Lawful 
         → ((p : Production) → Mem p (L .crow .pending) → b ≤ p .time) → (p : Production) → Mem p (L′ .crow .pending) → b ≤ p .time
     step-pending b link L′ (takes r lets) low due f p m =
         let tk = takes-of c cw r (L .crow) (g .cbytes) last lets in
-        elim (mem-split p (L .crow .pending) (produced (takeOf c cw r (L .crow) .1) (L .crow .next)) m)
-        [ inl k ↦ f p k
-        | inr k ↦ omega (arith, take-adds c d cl dl s cw sw order last L g r tk .reached p k, tk .past-watermark) ]
+        elim (mem-split p (L .crow .pending) (produced (takeOf c cw r (L .crow) .1) (L .crow .next)) m) [
+          | inl k ↦ f p k
+          | inr k ↦ omega (arith, take-adds c d cl dl s cw sw order last L g r tk .reached p k, tk .past-watermark)
+        ]
     step-pending b link L′ (fires t is-due reached) low due f p m =
         let low-due : b ≤ t = upto-due b t (c .due (L .crow .state)) is-due due in
-        elim (mem-split p (L .crow .pending) (produced (c .fire (L .crow .state) .1) (L .crow .next)) m)
-        [ inl k ↦ f p k
-        | inr k ↦ omega (arith, fire-adds c d cl dl s cw sw order last L g t (fires-at c d cl dl s cw sw order last L g t is-due reached) .reached p k) ]
+        elim (mem-split p (L .crow .pending) (produced (c .fire (L .crow .state) .1) (L .crow .next)) m) [
+          | inl k ↦ f p k
+          | inr k ↦ omega (arith, fire-adds c d cl dl s cw sw order last L g t (fires-at c d cl dl s cw sw order last L g t is-due reached) .reached p k)
+        ]
     step-pending b link L′ (lands q k lets) low due f p m = f p m
     step-pending b link L′ (clears q rest head k) low due f p m = f p (mem-drop p (L .crow .pending) m)
     step-pending b link L′ (spotFires t is-due reached) low due f p m = f p m
@@ -162,7 +164,7 @@ module _ (c d : Computation (List ℕ)) (cl : Lawful c StateBytes) (dl : Lawful 
         → W′ .cw ≤ lastTime → Sound c d W′
     sound-when W′ same link good order last =
         let good′ : (s : ℕ) → s < stops → Good c d s (W′ .cw) (W′ .sw) (W′ .lane s) =
-            λ s h. subst (λ L. Good c d s (W′ .cw) (W′ .sw) L) (sym (same s)) (good s h) in
+        λ s h. subst (λ L. Good c d s (W′ .cw) (W′ .sw) L) (sym (same s)) (good s h) in
         record { lanes = good′; order = order; last = last; link = linked W′ link good′ (λ m b. backed-same (W .lane) (W′ .lane) m same b) }
 
     stop-good
@@ -170,22 +172,25 @@ module _ (c d : Computation (List ℕ)) (cl : Lawful c StateBytes) (dl : Lawful 
         → s < stops → Step c d s (W .cw) (W .sw) (W .link) (W .lane s) (W′ .lane s)
         → ((q : ℕ) → (q ≡ s → ⊥) → W′ .lane q ≡ W .lane q) → (q : ℕ) → q < stops → Good c d q (W .cw) (W .sw) (W′ .lane q)
     stop-good W′ s h step others q k =
-        elim (cases-eq q s)
-        [ inl e ↦ subst (λ x. Good c d x (W .cw) (W .sw) (W′ .lane x)) (sym e) (good-step c d cl dl s (W .cw) (W .sw) (w .order) (w .last) (W .lane s) (w .lanes s h) (W .link) (W′ .lane s) (λ p m. w .link (Produced s p) m) (λ n m. w .link (Acknowledged s n) m) step)
-        | inr ne ↦ subst (λ L. Good c d q (W .cw) (W .sw) L) (sym (others q ne)) (w .lanes q k) ]
+        elim (cases-eq q s) [
+          | inl e ↦ subst (λ x. Good c d x (W .cw) (W .sw) (W′ .lane x)) (sym e) (good-step c d cl dl s (W .cw) (W .sw) (w .order) (w .last) (W .lane s) (w .lanes s h) (W .link) (W′ .lane s) (λ p m. w .link (Produced s p) m) (λ n m. w .link (Acknowledged s n) m) step)
+          | inr ne ↦ subst (λ L. Good c d q (W .cw) (W .sw) L) (sym (others q ne)) (w .lanes q k)
+        ]
 
     stop-carry
         : (W′ : World) (s : ℕ)
         → s < stops → Step c d s (W .cw) (W .sw) (W .link) (W .lane s) (W′ .lane s)
         → ((q : ℕ) → (q ≡ s → ⊥) → W′ .lane q ≡ W .lane q) → (m : Message) → Backed (W .lane) m → Backed (W′ .lane) m
     stop-carry W′ s h step others (Produced q p) b =
-        elim (cases-eq q s)
-        [ inl e ↦ subst (λ x. Backed (W .lane) (Produced x p) → Backed (W′ .lane) (Produced x p)) (sym e) (carry-produced s (W .cw) (W .sw) (w .order) (w .last) (W .lane s) (w .lanes s h) (W .link) (W′ .lane s) p (λ n m. w .link (Acknowledged s n) m) step) b
-        | inr ne ↦ subst (λ L. Backed (λ x. L) (Produced q p)) (sym (others q ne)) b ]
+        elim (cases-eq q s) [
+          | inl e ↦ subst (λ x. Backed (W .lane) (Produced x p) → Backed (W′ .lane) (Produced x p)) (sym e) (carry-produced s (W .cw) (W .sw) (w .order) (w .last) (W .lane s) (w .lanes s h) (W .link) (W′ .lane s) p (λ n m. w .link (Acknowledged s n) m) step) b
+          | inr ne ↦ subst (λ L. Backed (λ x. L) (Produced q p)) (sym (others q ne)) b
+        ]
     stop-carry W′ s h step others (Acknowledged q n) b =
-        elim (cases-eq q s)
-        [ inl e ↦ subst (λ x. Backed (W .lane) (Acknowledged x n) → Backed (W′ .lane) (Acknowledged x n)) (sym e) (carry-acknowledged s (W .cw) (W .sw) (w .order) (w .last) (W .lane s) (w .lanes s h) (W .link) (W′ .lane s) n step) b
-        | inr ne ↦ subst (λ L. Backed (λ x. L) (Acknowledged q n)) (sym (others q ne)) b ]
+        elim (cases-eq q s) [
+          | inl e ↦ subst (λ x. Backed (W .lane) (Acknowledged x n) → Backed (W′ .lane) (Acknowledged x n)) (sym e) (carry-acknowledged s (W .cw) (W .sw) (w .order) (w .last) (W .lane s) (w .lanes s h) (W .link) (W′ .lane s) n step) b
+          | inr ne ↦ subst (λ L. Backed (λ x. L) (Acknowledged q n)) (sym (others q ne)) b
+        ]
 
     pub sound-move : (W′ : World) → Move c d W W′ → Sound c d W′
     sound-move W′ (still same cw sw link) =
@@ -194,7 +199,7 @@ module _ (c d : Computation (List ℕ)) (cl : Lawful c StateBytes) (dl : Lawful 
         (omega (arith, w .order)) (omega (arith, w .last))
     sound-move W′ (stop s h step others cw sw link) =
         let good : (q : ℕ) → q < stops → Good c d q (W′ .cw) (W′ .sw) (W′ .lane q) =
-            λ q k. subst (λ x. Good c d q x (W′ .sw) (W′ .lane q)) (sym cw) (subst (λ x. Good c d q (W .cw) x (W′ .lane q)) (sym sw) (stop-good W′ s h step others q k)) in
+        λ q k. subst (λ x. Good c d q x (W′ .sw) (W′ .lane q)) (sym cw) (subst (λ x. Good c d q (W .cw) x (W′ .lane q)) (sym sw) (stop-good W′ s h step others q k)) in
         record {
           lanes = good;
           order = omega (arith, w .order);
@@ -223,10 +228,12 @@ module _ (c d : Computation (List ℕ)) (cl : Lawful c StateBytes) (dl : Lawful 
     below-move b W′ (passes same cw up lows link) low = below-same b W′ same (omega arith) low
     below-move b W′ (stop s h step others cw sw link) low = record {
       watermark = omega (arith, low .watermark);
-      pending = λ q k p m. elim (cases-eq q s)
-          [ inl e ↦ step-pending s (W .cw) (W .sw) (w .order) (w .last) (W .lane s) (w .lanes s h) b (W .link) (W′ .lane s) step (low .watermark) (low .dues s h) (low .pending s h) p (subst (λ x. Mem p (W′ .lane x .crow .pending)) e m)
-          | inr ne ↦ low .pending q k p (subst (λ L. Mem p (L .crow .pending)) (others q ne) m) ];
-      dues = λ q k. elim (cases-eq q s)
-          [ inl e ↦ subst (λ x. Upto b (c .due (W′ .lane x .crow .state))) (sym e) (step-due s (W .cw) (W .sw) (w .order) (w .last) (W .lane s) (w .lanes s h) b (W .link) (W′ .lane s) step (low .watermark) (low .dues s h))
-          | inr ne ↦ subst (λ L. Upto b (c .due (L .crow .state))) (sym (others q ne)) (low .dues q k) ];
+      pending = λ q k p m. elim (cases-eq q s) [
+        | inl e ↦ step-pending s (W .cw) (W .sw) (w .order) (w .last) (W .lane s) (w .lanes s h) b (W .link) (W′ .lane s) step (low .watermark) (low .dues s h) (low .pending s h) p (subst (λ x. Mem p (W′ .lane x .crow .pending)) e m)
+        | inr ne ↦ low .pending q k p (subst (λ L. Mem p (L .crow .pending)) (others q ne) m)
+      ];
+      dues = λ q k. elim (cases-eq q s) [
+        | inl e ↦ subst (λ x. Upto b (c .due (W′ .lane x .crow .state))) (sym e) (step-due s (W .cw) (W .sw) (w .order) (w .last) (W .lane s) (w .lanes s h) b (W .link) (W′ .lane s) step (low .watermark) (low .dues s h))
+        | inr ne ↦ subst (λ L. Upto b (c .due (L .crow .state))) (sym (others q ne)) (low .dues q k)
+      ];
     }

@@ -130,18 +130,21 @@ listed-more
 listed-more rows n queue [] e l = record {
   once = subst (λ q. Apart q) (sym (append-nil queue)) (l .once);
   pending = λ s m. let x = l .pending s (subst (λ q. Mem s q) (append-nil queue) m) in (omega (arith, x .0), x .1);
-  all = λ s k some. subst (λ q. Mem s q) (sym (append-nil queue)) (elim (cases-eq s n)
-      [ inl same ↦ absurd (some (ap (λ i. rows i .pending) same ∙ e))
-      | inr ne ↦ l .all s (less s n k ne) some ]);
+  all = λ s k some. subst (λ q. Mem s q) (sym (append-nil queue)) (elim (cases-eq s n) [
+    | inl same ↦ absurd (some (ap (λ i. rows i .pending) same ∙ e))
+    | inr ne ↦ l .all s (less s n k ne) some
+  ]);
 }
 listed-more rows n queue (p ∷ ps) e l = record {
   once = apart-snoc n queue (l .once) (λ m. fresh (l .pending n m .0));
-  pending = λ s m. elim (mem-snoc s n queue m)
-      [ inl k ↦ old s (l .pending s k)
-      | inr same ↦ (new s same, λ f. cons-nil p ps (sym e ∙ (sym (ap (λ i. rows i .pending) same) ∙ f))) ];
-  all = λ s k some. elim (cases-eq s n)
-      [ inl same ↦ subst (λ x. Mem x (queue ++ (n ∷ []))) (sym same) (mem-last n queue)
-      | inr ne ↦ mem-left s queue (n ∷ []) (l .all s (less s n k ne) some) ];
+  pending = λ s m. elim (mem-snoc s n queue m) [
+    | inl k ↦ old s (l .pending s k)
+    | inr same ↦ (new s same, λ f. cons-nil p ps (sym e ∙ (sym (ap (λ i. rows i .pending) same) ∙ f)))
+  ];
+  all = λ s k some. elim (cases-eq s n) [
+    | inl same ↦ subst (λ x. Mem x (queue ++ (n ∷ []))) (sym same) (mem-last n queue)
+    | inr ne ↦ mem-left s queue (n ∷ []) (l .all s (less s n k ne) some)
+  ];
 }
   where
     fresh : n < n → ⊥
@@ -202,9 +205,9 @@ module _ (kit : Kit) (keeps : Keeps kit) (free : Free) (n : Node) (held : Held n
   commit-held : (s : ℕ) (new : Row) → s < stops → n .power .on ≡ true → Held (commitRow kit free s new n .1)
   commit-held s new h on done =
       let wrote : renewed (kit .turn) (n .power) ≡ true =
-          or-left
-          (leb (kit .turn) (n .power .left)) (eqb (n .power .left + 1) (kit .turn) && eqb (n .power .tear) 1)
-          (le-leb (kit .turn) (n .power .left) (omega (arith, leb-true (kit .cost) (n .power .left) done, keeps .turn-ends))) in
+      or-left
+      (leb (kit .turn) (n .power .left)) (eqb (n .power .left + 1) (kit .turn) && eqb (n .power .tear) 1)
+      (le-leb (kit .turn) (n .power .left) (omega (arith, leb-true (kit .cost) (n .power .left) done, keeps .turn-ends))) in
       right-queued (commitRow kit free s new n .1)
       (subst (λ b. Right (cond b (withRow s new (n .row)) (n .row)) (requeued s (new .pending) (n .queue))) (sym wrote)
       (requeued-right s h new (n .row) (n .queue) (queued-right n (held on)) (new .pending) refl))

@@ -76,9 +76,10 @@ module _ (c : Computation (List ℕ)) (w : ℕ) where
       → c .mark (row .state) ≤ c .mark (takeOf c w r row .0) → Remembers c w row names
       → Remembers c w (takenRow c w r row) (names ++ (r .name ∷ []))
   remembers-take r row names rises known n m =
-      elim (mem-snoc n (r .name) names m)
-      [ inl k ↦ old (remembers-step (takeOf c w r row) row names rises known n k)
-      | inr e ↦ inr (subst (λ x. Mem x (takenRow c w r row .names)) (sym e) (mem-last (r .name) (stepped c w (takeOf c w r row) row .names))) ]
+      elim (mem-snoc n (r .name) names m) [
+        | inl k ↦ old (remembers-step (takeOf c w r row) row names rises known n k)
+        | inr e ↦ inr (subst (λ x. Mem x (takenRow c w r row .names)) (sym e) (mem-last (r .name) (stepped c w (takeOf c w r row) row .names)))
+      ]
     where
       old
           : (n .time < floorOf c w (takeOf c w r row .0)) ⊎ Mem n (stepped c w (takeOf c w r row) row .names)
@@ -96,9 +97,10 @@ module _ (c : Computation (List ℕ)) (w : ℕ) where
   -- the names of the row after a take are old ones or the name taken
   pub taken-names : (r : Record) (row : Row) (n : Name) → Mem n (takenRow c w r row .names) → Mem n (row .names) ⊎ (n ≡ r .name)
   taken-names r row n m =
-      elim (mem-snoc n (r .name) (stepped c w (takeOf c w r row) row .names) m)
-      [ inl k ↦ inl (kept-mem n (λ x. leb (floorOf c w (takeOf c w r row .0)) (x .time)) (row .names) k)
-      | inr e ↦ inr e ]
+      elim (mem-snoc n (r .name) (stepped c w (takeOf c w r row) row .names) m) [
+        | inl k ↦ inl (kept-mem n (λ x. leb (floorOf c w (takeOf c w r row .0)) (x .time)) (row .names) k)
+        | inr e ↦ inr e
+      ]
 
   pub takes-of
       : (r : Record) (row : Row)

@@ -50,7 +50,7 @@ upto-zero (Some d) = omega arith
 abbrev newLane : Lane
 newLane = record { crow = firstRow; srow = firstRow; took = []; made = []; landed = [] }
 
-first-mark : (kit : Kit) → Keeps kit → kit .computation .mark zeroState ≡ 0
+pub first-mark : (kit : Kit) → Keeps kit → kit .computation .mark zeroState ≡ 0
 first-mark kit k = ap (λ bs. kit .computation .mark bs) (sym (k .zeros)) ∙ k .lawful .first-mark
 
 module _ (kits : Kits) (ck : Keeps (kits .collector)) (sk : Keeps (kits .spotter)) where
@@ -82,7 +82,7 @@ module _ (kits : Kits) (ck : Keeps (kits .collector)) (sk : Keeps (kits .spotter
   new-sound : (p : Pair) → New p → Sound c d (worldOf kits [] p)
   new-sound p n =
       let same : (s : ℕ) → newLane ≡ laneOf kits [] p s =
-          λ s i. record { crow = sym (n .collector .rows s) i; srow = sym (n .spotter .rows s) i; took = []; made = []; landed = [] } in
+      λ s i. record { crow = sym (n .collector .rows s) i; srow = sym (n .spotter .rows s) i; took = []; made = []; landed = [] } in
       record {
         lanes =
             λ s h. subst (λ L. Good c d s (p .collector .w) (p .spotter .w) L) (same s) (subst (λ w. Good c d s w (p .spotter .w) newLane) (sym (n .collector .watermark)) (subst (λ w. Good c d s 0 w newLane) (sym (n .spotter .watermark)) (new-good s)));
@@ -97,10 +97,10 @@ module _ (kits : Kits) (ck : Keeps (kits .collector)) (sk : Keeps (kits .spotter
   run-sound (e ∷ es) p r =
       let w = run-sound es (e .before) (r .0) in
       let next =
-          sound-move c d
-          (ck .lawful) (sk .lawful) (worldOf kits es (e .before)) w
-          (nextWorld kits es (e .before) (deedOf (e .call) (e .before)) (happens kits (e .free) (e .call) (e .before)))
-          (call-moves kits ck sk es (e .before) (e .free) (e .call)) in
+      sound-move c d
+      (ck .lawful) (sk .lawful) (worldOf kits es (e .before)) w
+      (nextWorld kits es (e .before) (deedOf (e .call) (e .before)) (happens kits (e .free) (e .call) (e .before)))
+      (call-moves kits ck sk es (e .before) (e .free) (e .call)) in
       subst
       (λ q. Sound c d (worldOf kits (e ∷ es) q)) (r .2)
       (subst (λ x. Sound c d (nextWorld kits es (e .before) (deedOf (e .call) (e .before)) x)) (r .1) next)
@@ -127,10 +127,10 @@ module _ (kits : Kits) (ck : Keeps (kits .collector)) (sk : Keeps (kits .spotter
   call-below b e es p r low =
       let w = run-sound es (e .before) (r .0) in
       let next =
-          below-move c d
-          (ck .lawful) (sk .lawful) (worldOf kits es (e .before)) w b
-          (nextWorld kits es (e .before) (deedOf (e .call) (e .before)) (happens kits (e .free) (e .call) (e .before)))
-          (call-moves kits ck sk es (e .before) (e .free) (e .call)) low in
+      below-move c d
+      (ck .lawful) (sk .lawful) (worldOf kits es (e .before)) w b
+      (nextWorld kits es (e .before) (deedOf (e .call) (e .before)) (happens kits (e .free) (e .call) (e .before)))
+      (call-moves kits ck sk es (e .before) (e .free) (e .call)) low in
       subst
       (λ q. Below c d b (worldOf kits (e ∷ es) q)) (r .2)
       (subst (λ x. Below c d b (nextWorld kits es (e .before) (deedOf (e .call) (e .before)) x)) (r .1) next)
@@ -206,9 +206,9 @@ module _ (kits : Kits) (ck : Keeps (kits .collector)) (sk : Keeps (kits .spotter
   law es p r =
       let w = run-sound kits ck sk es p r in
       let good : (s : ℕ) → s < stops → Good (kits .collector .computation) (kits .spotter .computation) s (p .collector .w) (p .spotter .w) (laneOf kits es p s) =
-          w .lanes in
+      w .lanes in
       let waits : (s : ℕ) (h : s < stops) → waiting kits s es p ≡ good s h .waits =
-          λ s h. waits-is (laneOf kits es p s .made) (landed kits s es) (good s h .waits) (p .collector .row s .pending) (p .collector .row s .next) (good s h .line) in
+      λ s h. waits-is (laneOf kits es p s .made) (landed kits s es) (good s h .waits) (p .collector .row s .pending) (p .collector .row s .next) (good s h .line) in
       record {
         names-once = λ s h. good s h .names .once;
         in-order = λ s h. ap (λ xs. landed kits s es ++ xs) (waits s h) ∙ sym (good s h .line .order);
@@ -216,7 +216,7 @@ module _ (kits : Kits) (ck : Keeps (kits .collector)) (sk : Keeps (kits .spotter
         never-falls = never-falls kits ck sk es p r;
         none-late =
             λ s x h m. let k =
-                mem-is x (waiting kits s es p) (good s h .waits) (waits s h) m in omega (arith, good s h .times .spotted x k, good s h .times .passed x k);
+            mem-is x (waiting kits s es p) (good s h .waits) (waits s h) m in omega (arith, good s h .times .spotted x k, good s h .times .passed x k);
         link-fits = run-fits kits ck sk es p r;
         queued = run-holds kits ck sk es p r .collector;
       }

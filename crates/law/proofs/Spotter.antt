@@ -81,25 +81,27 @@ module _ (kits : Kits) (sk : Keeps (kits .spotter)) (es : List Event) (p : Pair)
       → ((m : Message) → Mem m link → Mem m (p .link) ⊎ ((m ≡ Acknowledged s (x .serial)) × (b ≡ true)))
       → Moves (world (cond b (withRow s (takenRow d (p .spotter .w) (asRecord s x) (rows s)) rows) rows) (landing b s x) link)
   landed-moves false s x link h m step linked =
-      quiet (λ q. []) link (λ q. refl) (λ y k. elim (linked y k)
-          [ inl old ↦ inl old
-          | inr e ↦ absurd (subst (λ b. cond b ⊥ (Unit {0})) (e .1) tt) ])
+      quiet (λ q. []) link (λ q. refl) (λ y k. elim (linked y k) [
+        | inl old ↦ inl old
+        | inr e ↦ absurd (subst (λ b. cond b ⊥ (Unit {0})) (e .1) tt)
+      ])
   landed-moves true s x link h m step linked =
       let new = takenRow d (p .spotter .w) (asRecord s x) (rows s) in
       let to : Lane =
-          record { crow = p .collector .row s; srow = new; took = taken kits s es; made = made kits s es; landed = landed kits s es ++ (x ∷ []) } in
+      record { crow = p .collector .row s; srow = new; took = taken kits s es; made = made kits s es; landed = landed kits s es ++ (x ∷ []) } in
       let name = asRecord s x .name in
       let known : Mem name (withRow s new rows s .names) =
-          subst
-          (λ (r : Row). Mem name (r .names)) (sym (row-at s new rows))
-          (mem-last name (stepped d (p .spotter .w) (takeOf d (p .spotter .w) (asRecord s x) (rows s)) (rows s) .names)) in
+      subst
+      (λ (r : Row). Mem name (r .names)) (sym (row-at s new rows))
+      (mem-last name (stepped d (p .spotter .w) (takeOf d (p .spotter .w) (asRecord s x) (rows s)) (rows s) .names)) in
       stop s h
       (subst (λ L. Steps s L) (sym (lane-path to refl (row-at s new rows) (took-none kits es p s [] refl) (append-nil (made kits s es)) (ap (λ b. landed kits s es ++ cond b (x ∷ []) []) (eq-eqb s s refl)))) step)
       (λ q ne. lane-path (laneOf kits es p q) refl (row-off s q new rows ne) (took-none kits es p q [] refl) (append-nil (made kits q es)) (ap (λ b. landed kits q es ++ cond b (x ∷ []) []) (ne-eqb s q (λ e. ne (sym e))) ∙ append-nil (landed kits q es)))
       refl refl
-      (λ y k. elim (linked y k)
-          [ inl old ↦ inl old
-          | inr e ↦ inr (subst (λ z. News (world (withRow s new rows) (landing true s x) link .lane) z) (sym (e .0)) (h, (name, known, refl))) ])
+      (λ y k. elim (linked y k) [
+        | inl old ↦ inl old
+        | inr e ↦ inr (subst (λ z. News (world (withRow s new rows) (landing true s x) link .lane) z) (sym (e .0)) (h, (name, known, refl)))
+      ])
 
   pub land-moves
       : (free : Free) (s : ℕ) (x : Production) (rest : List Message)
@@ -128,9 +130,10 @@ module _ (kits : Kits) (sk : Keeps (kits .spotter)) (es : List Event) (p : Pair)
           : (y : Message)
           → Mem y (rest ++ reply s (x .serial) answer)
           → Mem y (p .link) ⊎ ((y ≡ Acknowledged s (x .serial)) × (renewed (kits .spotter .turn) (p .spotter .power) ≡ true))
-      word y k = elim (mem-split y rest (reply s (x .serial) answer) k)
-          [ inl old ↦ inl (left y old)
-          | inr new ↦ inr (reply-mem s (x .serial) answer y new .0, done (or-cases (isDone answer) (isSeen answer) (reply-mem s (x .serial) answer y new .1))) ]
+      word y k = elim (mem-split y rest (reply s (x .serial) answer) k) [
+        | inl old ↦ inl (left y old)
+        | inr new ↦ inr (reply-mem s (x .serial) answer y new .0, done (or-cases (isDone answer) (isSeen answer) (reply-mem s (x .serial) answer y new .1)))
+      ]
         where
           done : (isDone answer ≡ true) ⊎ (isSeen answer ≡ true) → renewed (kits .spotter .turn) (p .spotter .power) ≡ true
           done (inl e) = done-renewed (kits .spotter) (sk .turn-ends) (free .point) (p .spotter .power) e
@@ -152,9 +155,10 @@ module _ (kits : Kits) (sk : Keeps (kits .spotter)) (es : List Event) (p : Pair)
       refusing e =
           quiet (landing (wrote (kits .spotter) (p .spotter .power) a′) s x) (rest ++ reply s (x .serial) a′)
           (λ q. ap (λ b. landing b s x q) (refused-wrote (kits .spotter) (p .spotter .power) a′ e (considered-plain d (p .spotter .power .on) (p .spotter .w) (asRecord s x) (rows s))))
-          (λ y k. elim (mem-split y rest (reply s (x .serial) a′) k)
-              [ inl old ↦ inl (left y old)
-              | inr new ↦ inr (known y (reply-mem s (x .serial) a′ y new)) ])
+          (λ y k. elim (mem-split y rest (reply s (x .serial) a′) k) [
+            | inl old ↦ inl (left y old)
+            | inr new ↦ inr (known y (reply-mem s (x .serial) a′ y new))
+          ])
         where
           seen : (isDone a′ ≡ true) ⊎ (isSeen a′ ≡ true) → isSeen a′ ≡ true
           seen (inl t) = absurd (both-ways (isDone a′) e t)
@@ -163,9 +167,9 @@ module _ (kits : Kits) (sk : Keeps (kits .spotter)) (es : List Event) (p : Pair)
           known : (y : Message) → (y ≡ Acknowledged s (x .serial)) × ((isDone a′ || isSeen a′) ≡ true) → News (laneOf kits es p) y
           known y f =
               let k =
-                  considered-seen d
-                  (p .spotter .power .on) (p .spotter .w) (asRecord s x) (rows s)
-                  (seen (or-cases (isDone a′) (isSeen a′) (f .1))) in
+              considered-seen d
+              (p .spotter .power .on) (p .spotter .w) (asRecord s x) (rows s)
+              (seen (or-cases (isDone a′) (isSeen a′) (f .1))) in
               subst (λ z. News (laneOf kits es p) z) (sym (f .0)) (k .0, (asRecord s x .name, k .1, refl))
 
   -- a row of the spotter was written without any landing, or not
@@ -177,7 +181,7 @@ module _ (kits : Kits) (sk : Keeps (kits .spotter)) (es : List Event) (p : Pair)
   written false s new h step = quiet (λ q. []) (p .link) (λ q. refl) (λ y k. inl k)
   written true s new h step =
       let to : Lane =
-          record { crow = p .collector .row s; srow = new; took = taken kits s es; made = made kits s es; landed = landed kits s es } in
+      record { crow = p .collector .row s; srow = new; took = taken kits s es; made = made kits s es; landed = landed kits s es } in
       stop s h
       (subst (λ L. Steps s L) (sym (lane-path to refl (row-at s new rows) (took-none kits es p s [] refl) (append-nil (made kits s es)) (append-nil (landed kits s es)))) step)
       (λ q ne. lane-path (laneOf kits es p q) refl (row-off s q new rows ne) (took-none kits es p q [] refl) (append-nil (made kits q es)) (append-nil (landed kits q es)))

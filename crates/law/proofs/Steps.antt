@@ -148,10 +148,10 @@ module _
       let tk = takes-of d sw r (L .srow) (g .sbytes) (omega arith) lets in
       let state = L .srow .state in
       let ahead : Times sw (c .mark (L .crow .state)) (d .mark state) (p ∷ x .0) =
-          subst (λ xs. Times sw (c .mark (L .crow .state)) (d .mark state) xs) (x .2) (g .times) in
+      subst (λ xs. Times sw (c .mark (L .crow .state)) (d .mark state) xs) (x .2) (g .times) in
       let most : d .mark (takeOf d sw r (L .srow) .0) ≤ p .time =
-          dl .take-mark-bound state sw
-          (p .time) (p .amount) (p .time) tk (tk .past-mark) (tk .past-watermark) (le-refl (p .time)) in
+      dl .take-mark-bound state sw
+      (p .time) (p .amount) (p .time) tk (tk .past-mark) (tk .past-watermark) (le-refl (p .time)) in
       record {
         waits = x .0;
         cbytes = g .cbytes;
@@ -162,9 +162,10 @@ module _
           remembered =
               subst (λ ns. Remembers d sw (takenRow d sw r (L .srow)) ns) (sym (map-++ (nameAt s) (L .landed) (p ∷ []))) (remembers-take d sw r (L .srow) (map (nameAt s) (L .landed)) (dl .take-mark-rises state sw (p .time) (p .amount) tk) (g .spotted .remembered));
           landed =
-              λ n m. subst (λ ns. Mem n ns) (sym (map-++ (nameAt s) (L .landed) (p ∷ []))) (elim (taken-names d sw r (L .srow) n m)
-              [ inl k ↦ mem-left n (map (nameAt s) (L .landed)) (nameAt s p ∷ []) (g .spotted .landed n k)
-              | inr e ↦ subst (λ y. Mem y (map (nameAt s) (L .landed) ++ (nameAt s p ∷ []))) (sym e) (mem-last (nameAt s p) (map (nameAt s) (L .landed))) ]);
+              λ n m. subst (λ ns. Mem n ns) (sym (map-++ (nameAt s) (L .landed) (p ∷ []))) (elim (taken-names d sw r (L .srow) n m) [
+                | inl k ↦ mem-left n (map (nameAt s) (L .landed)) (nameAt s p ∷ []) (g .spotted .landed n k)
+                | inr e ↦ subst (λ y. Mem y (map (nameAt s) (L .landed) ++ (nameAt s p ∷ []))) (sym e) (mem-last (nameAt s p) (map (nameAt s) (L .landed)))
+              ]);
         };
         times =
             times-land p (x .0) (g .waits) sw (c .mark (L .crow .state)) (d .mark state) (d .mark (takeOf d sw r (L .srow) .0)) (x .2) most (g .times);
@@ -177,8 +178,8 @@ module _
       → Good c d s cw sw (record { crow = clearedRow (L .crow); srow = L .srow; took = L .took; made = L .made; landed = L .landed })
   good-clears p rest head acked =
       let gone : drop 1 (L .crow .pending) ≡ g .waits =
-          ap (λ xs. drop 1 xs) head ∙
-          line-clears p (L .made) (L .landed) (g .waits) rest (L .crow .pending) (L .crow .next) head acked (g .line) .0 in
+      ap (λ xs. drop 1 xs) head ∙
+      line-clears p (L .made) (L .landed) (g .waits) rest (L .crow .pending) (L .crow .next) head acked (g .line) .0 in
       record {
         waits = g .waits;
         cbytes = g .cbytes;

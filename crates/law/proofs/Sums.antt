@@ -84,9 +84,9 @@ sum-by-stop n (r ∷ rs) f =
     let here = sum-one (r .stop) (r .amount) n (f r (inl refl)) in
     let both = sum-plus (λ s. cond (eqb (r .stop) s) (r .amount) 0) (λ s. amounts (at s rs)) n in
     let split =
-        sum-same
-        (λ s. amounts (at s (r ∷ rs))) (λ s. cond (eqb (r .stop) s) (r .amount) 0 + amounts (at s rs)) n
-        (λ s h. parts s (eqb (r .stop) s)) in
+    sum-same
+    (λ s. amounts (at s (r ∷ rs))) (λ s. cond (eqb (r .stop) s) (r .amount) 0 + amounts (at s rs)) n
+    (λ s h. parts s (eqb (r .stop) s)) in
     omega arith
   where
     parts : (s : ℕ) (b : Bool) → amounts (cond b (r ∷ at s rs) (at s rs)) ≡ cond b (r .amount) 0 + amounts (at s rs)

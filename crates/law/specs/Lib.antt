@@ -6,3 +6,4 @@ pub mod Pair
 pub mod Run
 pub mod Law
 pub mod Bests
+pub mod Fits

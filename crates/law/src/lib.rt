@@ -13,6 +13,7 @@ ghost use Rattle.model.specs.Computation.{Computation, Conserves, Totals};
 ghost use Rattle.model.specs.Row.{Row};
 ghost use Rattle.model.specs.declared.record.Production.{Production};
 ghost use Rattle.law.specs.Bests.{FirstDue, Crowd, Lows};
+ghost use Rattle.law.specs.Fits.{Every-row-fits};
 ghost use Rattle.law.specs.Law.{Every-run, Every-count, Every-telling};
 ghost use Rattle.law.specs.Node.{Keeps};
 ghost use Rattle.model.specs.Row.{oldest};
@@ -50,4 +51,10 @@ pub fn greatest_production_is_the_crowd()
 // The low watermark is the greatest number that is at most the watermark, all pending times and all dues.
 pub fn low_watermark_is_the_greatest_bound()
     ensures { λ _. ⌜ ((c : Computation (List ℕ)) (rows : ℕ → Row) (w b : ℕ) → (b ≤ lowest c rows w) ↔ Lows c rows w b 32) ⌝ }
+{}
+
+// Rows fit their format, at a new node and after every call: at most four pending productions, at most forty names, and
+// no number that the bytes of a row could not say.
+pub fn every_row_fits_its_format()
+    ensures { λ _. ⌜ Every-row-fits Keeps ⌝ }
 {}
