@@ -78,7 +78,9 @@ Weight = Computation (List ℕ) → (List ℕ → Type 0) → (List ℕ → ℕ)
 abbrev pub Every-count : (Kit → Type 0) → Weight → Weight → Type 0
 Every-count Asked Holding Totalling =
     (kits : Kits) → Asked (kits .collector) → Asked (kits .spotter) →
-    (held landed : List ℕ → ℕ) → Holding (kits .collector .computation) StateBytes held → Totalling (kits .spotter .computation) StateBytes landed →
+    (held landed : List ℕ → ℕ) →
+    Holding (kits .collector .computation) StateBytes held →
+    Totalling (kits .spotter .computation) StateBytes landed →
     (es : List Event) (p : Pair) → Run kits es p → Throughout (Counted kits held landed) es p
 
 -- a run from a new pair goes on by more calls, with the law at its every moment
@@ -93,4 +95,5 @@ Every-telling Asked =
     (kits : Kits) → Asked (kits .collector) → Asked (kits .spotter) → (es : List Event) →
     ((p : Pair) → Run kits es p → Told kits es [] [] es p) ×
     ((calls : List Call) (outcomes : List Outcome) (fs : List Event) (q : Pair) → Told kits es calls outcomes fs q →
-    (e : Event) → Happened kits e → e .before ≡ q → Told kits es (calls ++ (e .call ∷ [])) (outcomes ++ (e .outcome ∷ [])) (e ∷ fs) (e .after))
+    (e : Event) → Happened kits e → e .before ≡ q →
+    Told kits es (calls ++ (e .call ∷ [])) (outcomes ++ (e .outcome ∷ [])) (e ∷ fs) (e .after))

@@ -54,10 +54,12 @@ abbrev pub requeued : ℕ → List Production → List ℕ → List ℕ
 requeued s [] queue = kept-by (λ q. not (eqb q s)) queue
 requeued s (p ∷ ps) queue = cond (stands s queue) queue (queue ++ (s ∷ []))
 
+-- rows of which one is new
 abbrev pub withRow : ℕ → Row → (ℕ → Row) → ℕ → Row
 withRow s new rows q = cond (eqb q s) new (rows q)
 
--- the commit of a stop's row: the row is new by the store's rule
+-- the commit of a stop's row: the row is new by the store's rule; a node that was cut is off, and its restart makes the
+-- queue again
 abbrev pub commitRow : Kit → Free → ℕ → Row → Node → Answer × Node
 commitRow kit free s new n = (
   commitAnswer (kit .cost) (free .point s) (n .power),

@@ -77,7 +77,9 @@ takeForgetfully kit free r answer n =
 
 abbrev pub forgetful : Kits → Rules
 forgetful kits free (HandIn r) p =
-    atCollector (takeForgetfully (kits .collector) free r (considered (kits .collector .computation) (p .collector .power .on) (p .collector .w) r (p .collector .row (r .stop))) (p .collector)) p
+    let n = p .collector in
+    let answer = considered (kits .collector .computation) (n .power .on) (n .w) r (n .row (r .stop)) in
+    atCollector (takeForgetfully (kits .collector) free r answer n) p
 forgetful kits free (Advance t) p = happens kits free (Advance t) p
 forgetful kits free (Fire node) p = happens kits free (Fire node) p
 forgetful kits free Send p = happens kits free Send p
