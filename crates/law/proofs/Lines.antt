@@ -34,13 +34,20 @@ module _ (made landed waits pending new : List Production) (next then start afte
       let y = mem-unmap serialOf n new k in
       omega (arith, below (x .0) (x .1), a .serial (y .0) (y .1), x .2, y .2)
 
-  pub line-grows : Line made landed waits pending next → Line (made ++ new) landed (waits ++ new) (pending ++ new) then
-  line-grows l = record {
+  pub line-grows
+      : after ≤ lastTime
+      → Line made landed waits pending next
+      → Line (made ++ new) landed (waits ++ new) (pending ++ new) then
+  line-grows last l = record {
     order = ap (λ xs. xs ++ new) (l .order) ∙ append-assoc landed waits new;
     front = front-grows (l .front);
     serials =
         subst (λ ns. Apart ns) (sym (map-++ serialOf made new)) (apart-join (map serialOf made) (map serialOf new) (l .serials) (a .apart) (serials-apart (l .below)));
     below = λ p m. elim (mem-split p made new m) [ inl k ↦ omega (arith, l .below p k, a .grows) | inr k ↦ a .below p k ];
+    ranged = λ p m. elim (mem-split p made new m) [
+      | inl k ↦ l .ranged p k
+      | inr k ↦ record { time = omega (arith, a .time p k); some = a .amounts p k .0; few = a .amounts p k .1 }
+    ];
   }
 
   pub times-grow
@@ -77,6 +84,7 @@ line-lands p made landed waits rest pending next head first l = record {
   front = inr (p, head, mem-last p landed);
   serials = l .serials;
   below = l .below;
+  ranged = l .ranged;
 }
 
 -- what is acknowledged and stands first among the pending is the landed production in front
@@ -101,7 +109,7 @@ pub line-cleared
     : (made landed waits pending : List Production) (next : ℕ)
     → Line made landed waits pending next → Line made landed waits waits next
 line-cleared made landed waits pending next l =
-    record { order = l .order; front = inl refl; serials = l .serials; below = l .below }
+    record { order = l .order; front = inl refl; serials = l .serials; below = l .below; ranged = l .ranged }
 
 -- the first that waits has landed, and the spotter's mark is at most its time
 pub times-land

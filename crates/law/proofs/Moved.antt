@@ -24,6 +24,9 @@ use Rattle.law.proofs.Rows.{takes-of}
 use Rattle.law.proofs.Steps.{good-step, upto-due, upto-down, take-adds, fire-adds, fires-at}
 use Rattle.law.proofs.World.{Lane, World, Good, Sound, Backed, Front, Times, Names, Spotted, nameOf, nameAt, serialOf}
 
+apart : (q s : ℕ) → stops ≤ q → s < stops → q ≡ s → ⊥
+apart q s k h e = omega arith
+
 mem-drop : {X : Type 0} (x : X) (xs : List X) → Mem x (drop 1 xs) → Mem x xs
 mem-drop x [] m = m
 mem-drop x (y ∷ xs) m = inr m
@@ -165,7 +168,13 @@ module _ (c d : Computation (List ℕ)) (cl : Lawful c StateBytes) (dl : Lawful 
     sound-when W′ same link good order last =
         let good′ : (s : ℕ) → s < stops → Good c d s (W′ .cw) (W′ .sw) (W′ .lane s) =
         λ s h. subst (λ L. Good c d s (W′ .cw) (W′ .sw) L) (sym (same s)) (good s h) in
-        record { lanes = good′; order = order; last = last; link = linked W′ link good′ (λ m b. backed-same (W .lane) (W′ .lane) m same b) }
+        record {
+          lanes = good′;
+          order = order;
+          last = last;
+          link = linked W′ link good′ (λ m b. backed-same (W .lane) (W′ .lane) m same b);
+          beyond = λ s h. subst (λ (L : Lane). (L .crow .pending ≡ []) × (L .landed ≡ [])) (sym (same s)) (w .beyond s h);
+        }
 
     stop-good
         : (W′ : World) (s : ℕ)
@@ -205,6 +214,7 @@ module _ (c d : Computation (List ℕ)) (cl : Lawful c StateBytes) (dl : Lawful 
           order = omega (arith, w .order);
           last = omega (arith, w .last);
           link = linked W′ link good (stop-carry W′ s h step others);
+          beyond = λ q k. subst (λ (L : Lane). (L .crow .pending ≡ []) × (L .landed ≡ [])) (sym (others q (apart q s k h))) (w .beyond q k);
         }
     sound-move W′ (advances same up last sw link) =
         sound-when W′ same link

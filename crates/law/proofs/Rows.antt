@@ -10,7 +10,7 @@ use Rattle.std.proofs.shelf.Tests.{leb-false}
 use Rattle.std.specs.declared.option.Option.{Option}
 use Rattle.std.specs.declared.option.Option.the-variants.{Some, None}
 use Rattle.model.specs.Computation.{Computation, Lawful, Takes, Fires, StateBytes, Emits}
-use Rattle.model.specs.Limits.{lastTime}
+use Rattle.model.specs.Limits.{lastTime, mostAmount}
 use Rattle.model.specs.Row.{Row}
 use Rattle.model.specs.declared.record.Name.{Name}
 use Rattle.model.specs.declared.record.Production.{Production}
@@ -27,6 +27,7 @@ pub record Adds (next start after : ℕ) (new : List Production) (then : ℕ) : 
   pub below : (p : Production) → Mem p new → p .serial < then
   pub time : (p : Production) → Mem p new → p .time ≡ after
   pub reached : (p : Production) → Mem p new → start ≤ p .time
+  pub amounts : (p : Production) → Mem p new → (0 < p .amount) × (p .amount ≤ mostAmount)
   pub rise : Rising new
   pub apart : Apart (map serialOf new)
   pub grows : next ≤ then
@@ -39,6 +40,7 @@ adds None next start after f = record {
   below = λ p m. absurd m;
   time = λ p m. absurd m;
   reached = λ p m. absurd m;
+  amounts = λ p m. absurd m;
   rise = tt;
   apart = tt;
   grows = omega arith;
@@ -50,6 +52,10 @@ adds (Some x) next start after f =
       below = λ p m. elim m [ inl e ↦ omega (arith, ap (λ (q : Production). q .serial) e) | inr b ↦ absurd b ];
       time = λ p m. elim m [ inl e ↦ ap (λ (q : Production). q .time) e ∙ emits .stamped | inr b ↦ absurd b ];
       reached = λ p m. elim m [ inl e ↦ omega (arith, ap (λ (q : Production). q .time) e, emits .reached) | inr b ↦ absurd b ];
+      amounts = λ p m. elim m [
+        | inl e ↦ (omega (arith, ap (λ (q : Production). q .amount) e, emits .some), omega (arith, ap (λ (q : Production). q .amount) e, emits .few))
+        | inr b ↦ absurd b
+      ];
       rise = (λ q m. absurd m, tt);
       apart = (λ m. m, tt);
       grows = omega arith;

@@ -3,36 +3,37 @@ use Prim.Native.Nat.{ℕ, zero, suc, _≤_, _<_, max}
 use native.Mathlib.Nat.{le-refl}
 use native.Mathlib.Omega.{arith}
 use mathlib.Core.Path.{_≡_, refl, sym, _∙_, ap, subst}
-use mathlib.Core.Bool.{Bool, true, false, cond, not, _||_, false≢true}
+use mathlib.Core.Bool.{Bool, true, false, cond, not, _&&_, _||_, false≢true}
 use mathlib.Core.List.{List, [], _∷_, _++_, map}
 use mathlib.Core.Logic.{_⊎_, inl, inr}
-use lib.Dec.{eqb}
+use lib.Dec.{leb, ltb, eqb}
 use lib.ListN.{getD, length, replicate}
-use Rattle.std.proofs.shelf.Tests.{cond-both, eqb-true, eq-eqb, or-left, or-right, not-from-false, not-from-true, both-ways}
+use Rattle.std.proofs.shelf.Tests.{cond-both, eqb-true, eq-eqb, or-left, or-right, not-from-false, not-from-true, both-ways, and-from, lt-ltb, le-leb, cases-lt}
 use Rattle.std.specs.shelf.Lists.{kept-by}
 use Rattle.std.specs.declared.option.Option.{Option}
 use Rattle.std.specs.declared.option.Option.the-variants.{Some, None}
 use Rattle.model.specs.Computation.{Computation, Lawful, StateBytes, Upto, zeroState}
-use Rattle.model.specs.Limits.{lastTime, stops, mostMessages}
+use Rattle.model.specs.Limits.{lastTime, mostAmount, stops, mostMessages, inRange}
 use Rattle.model.specs.Row.{Row, firstRow}
 use Rattle.model.specs.declared.answer.Outcome.{Outcome}
 use Rattle.model.specs.declared.record.Message.{Message}
+use Rattle.model.specs.declared.record.Message.the-variants.{Produced}
 use Rattle.model.specs.declared.record.Production.{Production}
 use Rattle.law.specs.Law.{Law, Throughout, Every-run}
 use Rattle.law.specs.Lists.{Mem, Apart}
 use Rattle.law.specs.Node.{Node, Kit, Keeps}
-use Rattle.law.specs.Pair.{Kits, Pair, happens, lowWatermark}
+use Rattle.law.specs.Pair.{Kits, Pair, happens, lowWatermark, asRecord}
 use Rattle.law.specs.Rows.{floorOf}
-use Rattle.law.specs.Run.{Event, New, Run, moments, deedOf, hasSerial, landed, waiting}
+use Rattle.law.specs.Run.{Event, New, Run, moments, deedOf, hasSerial, made, landed, waiting}
 use Rattle.law.proofs.Best.{low-tells, low-from}
 use Rattle.law.proofs.Calls.{call-moves}
 use Rattle.law.proofs.Links.{call-fits}
-use Rattle.law.proofs.Lists.{mem-map, mem-is, map-++, apart-split, kept-all}
+use Rattle.law.proofs.Lists.{mem-left, mem-right, mem-map, mem-is, map-++, apart-split, kept-all}
 use Rattle.law.proofs.Moved.{sound-move, below-move}
 use Rattle.law.proofs.Moves.{Below}
 use Rattle.law.proofs.Next.{laneOf, worldOf, nextWorld}
 use Rattle.law.proofs.QueueCalls.{Holds, call-holds}
-use Rattle.law.proofs.World.{Lane, World, Good, Sound, Front, Line, serialOf, nameOf, nameAt}
+use Rattle.law.proofs.World.{Lane, World, Good, Sound, Backed, Ranged, Front, Line, serialOf, nameOf, nameAt}
 
 -- zeros are bytes
 zeros-small : (n i : ℕ) → getD (replicate n 0) i 0 < 256
@@ -65,7 +66,7 @@ module _ (kits : Kits) (ck : Keeps (kits .collector)) (sk : Keeps (kits .spotter
     waits = [];
     cbytes = zero-bytes;
     sbytes = zero-bytes;
-    line = record { order = refl; front = inl refl; serials = tt; below = λ p m. absurd m };
+    line = record { order = refl; front = inl refl; serials = tt; below = λ p m. absurd m; ranged = λ p m. absurd m };
     names = record { once = tt; remembered = λ n m. absurd m };
     spotted = record { remembered = λ n m. absurd m; landed = λ n m. m };
     times = record {
@@ -89,6 +90,7 @@ module _ (kits : Kits) (ck : Keeps (kits .collector)) (sk : Keeps (kits .spotter
         order = omega (arith, n .spotter .watermark);
         last = omega (arith, n .collector .watermark);
         link = λ m k. absurd (mem-is m (p .link) [] (n .link) k);
+        beyond = λ s h. (ap (λ (r : Row). r .pending) (n .collector .rows s), refl);
       }
 
   -- what holds of the world after a call holds at the end of the longer run
@@ -180,6 +182,26 @@ unlanded n ps f = at (hasSerial n ps) refl
     at true e = absurd (f (serial-mem n ps e))
     at false e = refl
 
+-- what has landed or stands first among the pending is landed or waits
+was-made
+    : (x : Production) (landed waits pending : List Production)
+    → Front pending waits landed
+    → Mem x landed ⊎ ((rest : List Production) × (pending ≡ x ∷ rest))
+    → Mem x (landed ++ waits)
+was-made x landed waits pending front (inl m) = mem-left x landed waits m
+was-made x landed waits pending (inl e) (inr f) =
+    mem-right x landed waits (mem-is x (x ∷ f .0) waits (sym (f .1) ∙ e) (inl refl))
+was-made x landed waits pending (inr g) (inr f) =
+    let heads : g .0 ∷ waits ≡ x ∷ f .0 = sym (g .1) ∙ f .1 in
+    let same : g .0 ≡ x = cc in
+    mem-left x landed waits (subst (λ y. Mem y landed) same (g .2))
+
+ranged-is : (s : ℕ) (x : Production) → s < stops → Ranged x → inRange (asRecord s x) ≡ true
+ranged-is s x h r =
+    and-from (ltb s stops) (leb (x .time) lastTime && (ltb 0 (x .amount) && leb (x .amount) mostAmount)) (lt-ltb s stops h)
+    (and-from (leb (x .time) lastTime) (ltb 0 (x .amount) && leb (x .amount) mostAmount) (le-leb (x .time) lastTime (r .time))
+    (and-from (ltb 0 (x .amount)) (leb (x .amount) mostAmount) (lt-ltb 0 (x .amount) (r .some)) (le-leb (x .amount) mostAmount (r .few))))
+
 -- what is pending and has not landed is what waits
 pub waits-is
     : (made landed waits pending : List Production) (next : ℕ)
@@ -202,6 +224,21 @@ waits-is made landed waits pending next l = at (l .front)
         (ap (λ b. cond b (f .0 ∷ kept-by (λ x. not (hasSerial (x .serial) landed)) waits) (kept-by (λ x. not (hasSerial (x .serial) landed)) waits)) (not-from-true (hasSerial (f .0 .serial) landed) (mem-serial (f .0 .serial) landed (mem-map serialOf (f .0) landed (f .2)))) ∙ all)
 
 module _ (kits : Kits) (ck : Keeps (kits .collector)) (sk : Keeps (kits .spotter)) where
+  -- what has landed or is pending at a stop was made there, and so is in range
+  deliverable
+      : (es : List Event) (p : Pair)
+      → Sound (kits .collector .computation) (kits .spotter .computation) (worldOf kits es p)
+      → (s : ℕ) (x : Production)
+      → (s < stops) ⊎ (stops ≤ s)
+      → Backed (laneOf kits es p) (Produced s x)
+      → inRange (asRecord s x) ≡ true
+  deliverable es p w s x (inl h) b =
+      let g = w .lanes s h in
+      ranged-is s x h (g .line .ranged x (mem-is x (landed kits s es ++ g .waits) (made kits s es) (sym (g .line .order)) (was-made x (landed kits s es) (g .waits) (p .collector .row s .pending) (g .line .front) b)))
+  deliverable es p w s x (inr h) (inl m) = absurd (mem-is x (landed kits s es) [] (w .beyond s h .1) m)
+  deliverable es p w s x (inr h) (inr f) =
+      absurd (mem-is x (p .collector .row s .pending) [] (w .beyond s h .0) (mem-is x (x ∷ f .0) (p .collector .row s .pending) (sym (f .1)) (inl refl)))
+
   pub law : (es : List Event) (p : Pair) → Run kits es p → Law kits es p
   law es p r =
       let w = run-sound kits ck sk es p r in
@@ -218,6 +255,7 @@ module _ (kits : Kits) (ck : Keeps (kits .collector)) (sk : Keeps (kits .spotter
             λ s x h m. let k =
             mem-is x (waiting kits s es p) (good s h .waits) (waits s h) m in omega (arith, good s h .times .spotted x k, good s h .times .passed x k);
         link-fits = run-fits kits ck sk es p r;
+        deliverable = λ s x m. deliverable es p w s x (cases-lt s stops) (w .link (Produced s x) m);
         queued = run-holds kits ck sk es p r .collector;
       }
 

@@ -78,7 +78,7 @@ module _
         cbytes = cl .take-sound state cw t a tk;
         sbytes = g .sbytes;
         line =
-            line-grows (L .made) (L .landed) (g .waits) (L .crow .pending) new (L .crow .next) then t after (take-adds r tk) (g .line);
+            line-grows (L .made) (L .landed) (g .waits) (L .crow .pending) new (L .crow .next) then t after (take-adds r tk) (omega (arith, tk .time)) (g .line);
         names = record {
           once =
               subst (λ ns. Apart ns) (sym (map-++ nameOf (L .took) (r ∷ []))) (apart-snoc (r .name) (map nameOf (L .took)) (g .names .once) (not-known c cw r (L .crow) (map nameOf (L .took)) (g .names .remembered) lets));
@@ -109,7 +109,7 @@ module _
         cbytes = cl .fire-sound state cw t f;
         sbytes = g .sbytes;
         line =
-            line-grows (L .made) (L .landed) (g .waits) (L .crow .pending) new (L .crow .next) then t after (fire-adds t f) (g .line);
+            line-grows (L .made) (L .landed) (g .waits) (L .crow .pending) new (L .crow .next) then t after (fire-adds t f) most (g .line);
         names = record {
           once = g .names .once;
           remembered = remembers-step c cw (c .fire state) (L .crow) (map nameOf (L .took)) rises (g .names .remembered);

@@ -5,7 +5,7 @@ use mathlib.Core.Path.{_≡_}
 use mathlib.Core.List.{List, [], _∷_, _++_, map}
 use mathlib.Core.Logic.{_⊎_}
 use Rattle.model.specs.Computation.{Computation, StateBytes, Upto}
-use Rattle.model.specs.Limits.{lastTime, stops}
+use Rattle.model.specs.Limits.{lastTime, mostAmount, stops}
 use Rattle.model.specs.Row.{Row}
 use Rattle.model.specs.declared.record.Message.{Message}
 use Rattle.model.specs.declared.record.Message.the-variants.{Produced, Acknowledged}
@@ -53,12 +53,19 @@ Rising (p ∷ ps) = ((q : Production) → Mem q ps → p .time ≤ q .time) × R
 abbrev pub Front : List Production → List Production → List Production → Type 0
 Front pending waits landed = (pending ≡ waits) ⊎ ((p : Production) × (pending ≡ p ∷ waits) × Mem p landed)
 
+-- a production that the spotter finds in range
+pub record Ranged (p : Production) : Type 0 where
+  pub time : p .time ≤ lastTime
+  pub some : 0 < p .amount
+  pub few : p .amount ≤ mostAmount
+
 -- what was made is what landed, then what waits; serials are apart and below the next one
 pub record Line (made landed waits pending : List Production) (next : ℕ) : Type 0 where
   pub order : made ≡ landed ++ waits
   pub front : Front pending waits landed
   pub serials : Apart (map serialOf made)
   pub below : (p : Production) → Mem p made → p .serial < next
+  pub ranged : (p : Production) → Mem p made → Ranged p
 
 -- no name was taken twice, and each is late or still in the row
 pub record Names (c : Computation (List ℕ)) (w : ℕ) (row : Row) (names : List Name) : Type 0 where
@@ -100,3 +107,5 @@ module _ (c d : Computation (List ℕ)) where
     pub order : W .sw ≤ W .cw
     pub last : W .cw ≤ lastTime
     pub link : (m : Message) → Mem m (W .link) → Backed (W .lane) m
+    -- nothing ever happens at a stop that does not exist
+    pub beyond : (s : ℕ) → stops ≤ s → (W .lane s .crow .pending ≡ []) × (W .lane s .landed ≡ [])

@@ -5,14 +5,15 @@ use mathlib.Core.Bool.{Bool, true, false}
 use mathlib.Core.List.{List, [], _∷_, _++_, map}
 use lib.ListN.{length}
 use Rattle.model.specs.Computation.{Computation, StateBytes}
-use Rattle.model.specs.Limits.{stops, mostMessages}
+use Rattle.model.specs.Limits.{stops, mostMessages, inRange}
 use Rattle.model.specs.declared.answer.Outcome.{Outcome}
 use Rattle.model.specs.declared.call.Call.{Call}
+use Rattle.model.specs.declared.record.Message.the-variants.{Produced}
 use Rattle.model.specs.declared.record.Production.{Production}
 use Rattle.model.specs.declared.record.Record.{Record}
 use Rattle.law.specs.Lists.{Mem, Apart, total}
 use Rattle.law.specs.Node.{Kit, Node}
-use Rattle.law.specs.Pair.{Kits, Pair, lowWatermark}
+use Rattle.law.specs.Pair.{Kits, Pair, lowWatermark, asRecord}
 use Rattle.law.specs.Rows.{floorOf}
 use Rattle.law.specs.Run.{Event, Happened, Run, Goes, moments, allTaken, taken, made, landed, waiting}
 use Rattle.law.specs.Stops.{sumStops}
@@ -37,6 +38,8 @@ pub record Law (kits : Kits) (es : List Event) (p : Pair) : Type 0 where
       : (s : ℕ) (x : Production)
       → s < stops → Mem x (waiting kits s es p)
       → floorOf (kits .spotter .computation) (p .spotter .w) (p .spotter .row s .state) ≤ x .time
+  -- every production on the link is in range at the spotter
+  pub deliverable : (s : ℕ) (x : Production) → Mem (Produced s x) (p .link) → inRange (asRecord s x) ≡ true
   -- the link holds no more messages than it may
   pub link-fits : length (p .link) ≤ mostMessages
   -- while the collector is on, its queue holds exactly the stops with something pending, each once
