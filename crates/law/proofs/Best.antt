@@ -1,12 +1,12 @@
 -- What is asked of all stops together, by what it is: the first best entry, the low watermark. Assumes nothing.
-use Prim.Native.Nat.{ℕ, zero, suc, _+_, _≤_, _<_, min}
+use Prim.Native.Nat.{ℕ, zero, suc, _≤_, _<_}
 use native.Mathlib.Omega.{arith}
 use mathlib.Core.Path.{_≡_, refl, sym, _∙_, ap, subst}
-use mathlib.Core.Bool.{Bool, true, false, cond, true≢false, false≢true}
-use mathlib.Core.List.{List, [], _∷_, _++_}
-use mathlib.Core.Logic.{_⊎_, inl, inr, _↔_}
+use mathlib.Core.Bool.{Bool, true, false, cond}
+use mathlib.Core.List.{List, [], _∷_}
+use mathlib.Core.Logic.{inl, inr, _↔_}
 use lib.Dec.{ltb}
-use Rattle.std.proofs.shelf.Tests.{cond-both, ltb-true, ltb-false, lt-ltb, le-ltb, cases-eq, cases-order}
+use Rattle.std.proofs.shelf.Tests.{lt-ltb, le-ltb, cases-eq}
 use Rattle.std.specs.declared.option.Option.{Option}
 use Rattle.std.specs.declared.option.Option.the-variants.{Some, None}
 use Rattle.model.specs.Computation.{Computation, Upto}

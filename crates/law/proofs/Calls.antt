@@ -1,6 +1,6 @@
 -- Each of the eleven calls is one move, or none. Assumes nothing.
-use Prim.Native.Nat.{ℕ, _≤_, _<_}
-use mathlib.Core.Path.{_≡_, refl, sym, _∙_, ap, subst}
+use Prim.Native.Nat.{ℕ}
+use mathlib.Core.Path.{_≡_, refl, sym, ap, subst}
 use mathlib.Core.Bool.{Bool, true, false, cond, _&&_}
 use mathlib.Core.List.{List, [], _∷_, _++_}
 use mathlib.Core.Logic.{_⊎_, inl, inr}
@@ -11,28 +11,25 @@ use Rattle.std.specs.shelf.Lists.{removed}
 use Rattle.std.specs.shelf.Maps.{nth}
 use Rattle.std.specs.declared.option.Option.{Option}
 use Rattle.std.specs.declared.option.Option.the-variants.{Some, None}
-use Rattle.model.specs.Computation.{Computation}
 use Rattle.model.specs.Junk.{junkBytes}
 use Rattle.model.specs.Limits.{mostMessages, pageBytes}
 use Rattle.model.specs.Power.{restartAnswer, restarted}
-use Rattle.model.specs.declared.answer.Answer.{Answer}
-use Rattle.model.specs.declared.answer.Answer.the-variants.{Done, OutOfRange, Off, Nothing, LinkFull, NoMessage}
+use Rattle.model.specs.declared.answer.Answer.the-variants.{Done, OutOfRange, Off, LinkFull, NoMessage}
 use Rattle.model.specs.declared.answer.Outcome.{Outcome}
-use Rattle.model.specs.declared.answer.Outcome.the-variants.{Plain, Shown}
+use Rattle.model.specs.declared.answer.Outcome.the-variants.{Plain}
 use Rattle.model.specs.declared.call.Call.{Call}
 use Rattle.model.specs.declared.call.Call.the-variants.{HandIn, Advance, Fire, Send, Lose, Repeat, Deliver, Pass, Restart, Show, MarkDone}
 use Rattle.model.specs.declared.record.Message.{Message}
 use Rattle.model.specs.declared.record.Message.the-variants.{Produced, Acknowledged}
 use Rattle.model.specs.declared.record.Production.{Production}
 use Rattle.law.specs.Lists.{Mem}
-use Rattle.law.specs.Node.{Node, Free, Keeps, handIn, raise, fire, clear, restart}
-use Rattle.law.specs.Pair.{Kits, Pair, happens, atCollector, atSpotter, atNode, withLink, sendPending, sendHead, sendFrom, repeatOf, receive, arrives, asRecord, deliverOf, lowWatermark, shown}
+use Rattle.law.specs.Node.{Free, Keeps, handIn, raise, fire, clear, restart}
+use Rattle.law.specs.Pair.{Kits, Pair, happens, atCollector, atSpotter, atNode, withLink, sendPending, sendHead, sendFrom, repeatOf, arrives, asRecord, deliverOf, lowWatermark}
 use Rattle.law.specs.Run.{Event, Deed, fires, other, arrival, deedOf}
-use Rattle.model.specs.Row.{oldest}
-use Rattle.law.specs.Stops.{greatest, pendingStops}
+use Rattle.law.specs.Stops.{oldest, pendingStops}
 use Rattle.law.proofs.Collector.{hand-in-moves, fire-moves, advance-moves, acknowledge-moves}
 use Rattle.law.proofs.Lists.{mem-split}
-use Rattle.law.proofs.Moves.{News, Linked, Move, still}
+use Rattle.law.proofs.Moves.{News, Move, still}
 use Rattle.law.proofs.Next.{laneOf, worldOf, grown, nextWorld, same-grown, mem-removed, nth-mem, none-some}
 use Rattle.law.proofs.Spotter.{land-moves, spot-fire-moves, mark-done-moves, pass-moves}
 use Rattle.law.proofs.World.{World}

@@ -4,7 +4,7 @@ use native.Mathlib.Omega.{arith}
 use mathlib.Core.Path.{_≡_, refl, sym, _∙_, ap, subst}
 use mathlib.Core.Bool.{Bool, true, false, cond}
 use mathlib.Core.List.{List, [], _∷_, _++_, append-nil}
-use mathlib.Core.Logic.{_⊎_, inl, inr}
+use mathlib.Core.Logic.{inl}
 use lib.Dec.{leb, ltb, eqb}
 use lib.ListN.{length, drop}
 use Rattle.std.proofs.shelf.Tests.{cond-both, leb-true, leb-false, ltb-true, eqb-true}
@@ -18,20 +18,18 @@ use Rattle.model.specs.Row.{Row}
 use Rattle.model.specs.declared.answer.Answer.{Answer}
 use Rattle.model.specs.declared.answer.Answer.the-variants.{OutOfRange, Off, Nothing, NotOldest}
 use Rattle.model.specs.declared.record.Message.{Message}
-use Rattle.model.specs.declared.record.Message.the-variants.{Produced, Acknowledged}
+use Rattle.model.specs.declared.record.Message.the-variants.{Acknowledged}
 use Rattle.model.specs.declared.record.Production.{Production}
 use Rattle.model.specs.declared.record.Record.{Record}
 use Rattle.law.specs.Lists.{Mem}
-use Rattle.law.specs.Node.{Node, Free, Keeps, withRow, wrote, commitRow, commitWatermark, handIn, handInAs, raise, advance, fire, fireDue, fireAs, clear, clearOldest}
+use Rattle.law.specs.Node.{Free, Keeps, withRow, wrote, commitRow, commitWatermark, handIn, raise, advance, fire, fireDue, fireAs, clear, clearOldest}
 use Rattle.law.specs.Pair.{Kits, Pair, atCollector, withLink}
-use Rattle.model.specs.Answers.{isDone, isCut}
-use Rattle.model.specs.Row.{clearedRow, roomForOne}
-use Rattle.law.specs.Rows.{considered, takeOf, takenRow, firedRow, produced, isOldest}
-use Rattle.law.specs.Run.{Event, Deed, hands, fires, other, allTaken, taken, made, landed}
+use Rattle.law.specs.Rows.{isDone, isCut, considered, takeOf, takenRow, firedRow, clearedRow, produced, roomForOne, isOldest}
+use Rattle.law.specs.Run.{Event, hands, fires, other, allTaken, taken, made, landed}
 use Rattle.law.specs.Stops.{earliest}
 use Rattle.law.proofs.Best.{earliest-due}
 use Rattle.law.proofs.Judged.{considered-plain, considered-lets, considered-stop, refused-wrote, commit-wrote, fire-room-plain}
-use Rattle.law.proofs.Moves.{Step, Linked, Same, Move, still, stop, advances}
+use Rattle.law.proofs.Moves.{Step, Move, still, stop, advances}
 use Rattle.law.proofs.Next.{laneOf, worldOf, grown, nextWorld, lane-path, row-at, row-off, took-at, took-off, took-none, none-added, same-grown, drop-length, drop-all}
 use Rattle.law.proofs.World.{Lane, World}
 

@@ -2,16 +2,16 @@
 use Prim.Native.Nat.{ℕ, _+_, _≤_, _<_}
 use native.Mathlib.Omega.{arith}
 use mathlib.Core.Path.{_≡_, refl, sym, _∙_, ap, subst}
-use mathlib.Core.Bool.{Bool, true, false, cond, false≢true}
+use mathlib.Core.Bool.{Bool, true, false, cond}
 use mathlib.Core.List.{List, [], _∷_, _++_, map}
-use mathlib.Core.Logic.{_⊎_, inl, inr}
+use mathlib.Core.Logic.{inl, inr}
 use lib.Dec.{eqb}
 use Rattle.std.proofs.shelf.Tests.{cases-eq, both-ways}
 use Rattle.std.specs.declared.option.Option.{Option}
 use Rattle.std.specs.declared.option.Option.the-variants.{Some, None}
 use Rattle.std.specs.shelf.Maps.{nth}
 use Rattle.model.specs.Answers.{outcomeAnswer}
-use Rattle.model.specs.Computation.{Computation, Lawful, Conserves, Totals, StateBytes, emitted, zeroState}
+use Rattle.model.specs.Computation.{Computation, Lawful, Conserves, Totals, StateBytes, emitted}
 use Rattle.model.specs.Limits.{lastTime, stops}
 use Rattle.model.specs.declared.answer.Answer.{Answer}
 use Rattle.model.specs.declared.answer.Outcome.{Outcome}
@@ -25,13 +25,11 @@ use Rattle.law.specs.Law.{Throughout, Counted, Every-count}
 use Rattle.law.specs.Lists.{Mem, total}
 use Rattle.law.specs.Node.{Keeps, Free, wrote, handIn, commitRow}
 use Rattle.law.specs.Pair.{Kits, Pair, happens, asRecord}
-use Rattle.model.specs.Answers.{isDone}
-use Rattle.law.specs.Rows.{takeOf, takenRow, produced, considered}
-use Rattle.law.specs.Run.{Event, Run, New, Deed, hands, fires, lands, other, deedOf, takenAs, allTaken, taken, made, landed, waiting, collectorWrote, arrival}
-use Rattle.law.specs.Stops.{sumBelow, sumStops}
+use Rattle.law.specs.Rows.{isDone, takeOf, takenRow, produced, considered}
+use Rattle.law.specs.Run.{Event, Run, fires, lands, other, deedOf, takenAs, allTaken, taken, made, landed, waiting, collectorWrote, arrival}
 use Rattle.law.proofs.Calls.{call-moves}
 use Rattle.law.proofs.Judged.{considered-plain, considered-stop, refused-wrote}
-use Rattle.law.proofs.Lists.{map-++, total-++, mem-split, mem-is}
+use Rattle.law.proofs.Lists.{map-++, total-++, mem-split}
 use Rattle.law.proofs.Moves.{Step, takes, clears, spotFires, spotClears, Same, Move, still, stop, advances, passes}
 use Rattle.law.proofs.Next.{laneOf, worldOf, nextWorld}
 use Rattle.law.proofs.Rows.{takes-of}

@@ -1,19 +1,19 @@
 -- Rows fit their format after every call. Assumes nothing.
-use Prim.Native.Nat.{ℕ, _+_, _≤_, _<_, max}
+use Prim.Native.Nat.{ℕ, _≤_, _<_}
 use native.Mathlib.Nat.{le-refl, le-trans}
 use native.Mathlib.Omega.{arith}
-use mathlib.Core.Path.{_≡_, refl, sym, _∙_, ap, subst}
+use mathlib.Core.Path.{_≡_, refl, sym, _∙_, subst}
 use mathlib.Core.Bool.{Bool, true, false, cond, _&&_, false≢true}
 use mathlib.Core.List.{List, [], _∷_, _++_}
-use mathlib.Core.Logic.{_⊎_, inl, inr}
+use mathlib.Core.Logic.{inl, inr}
 use lib.Dec.{leb, ltb, eqb}
 use lib.ListN.{length, drop, length-append}
 use Rattle.std.proofs.shelf.Tests.{cond-both, leb-true, leb-false}
 use Rattle.std.specs.shelf.Lists.{kept-by}
 use Rattle.std.specs.declared.option.Option.{Option}
 use Rattle.std.specs.declared.option.Option.the-variants.{Some, None}
-use Rattle.model.specs.Computation.{Computation, Lawful, Takes, Fires, StateBytes, Emits, zeroState}
-use Rattle.model.specs.Limits.{lastTime, lastSerial, mostAmount, mostPending, mostNames, stops, pageBytes}
+use Rattle.model.specs.Computation.{Computation, Lawful, Fires, StateBytes, Emits}
+use Rattle.model.specs.Limits.{lastTime, lastSerial, mostPending, mostNames, stops, pageBytes}
 use Rattle.model.specs.Power.{renewed, restartAnswer, restarted}
 use Rattle.model.specs.Row.{Row, firstRow}
 use Rattle.model.specs.declared.answer.Answer.{Answer}
@@ -21,7 +21,7 @@ use Rattle.model.specs.declared.answer.Answer.the-variants.{Done, OutOfRange, O
 use Rattle.model.specs.declared.record.Name.{Name}
 use Rattle.model.specs.declared.record.Production.{Production}
 use Rattle.model.specs.declared.record.Record.{Record}
-use Rattle.law.specs.Fits.{NameFits, ProductionFits, RowFits, NodeFits, Fitting, Every-row-fits}
+use Rattle.law.specs.Fits.{NameFits, ProductionFits, RowFits, NodeFits, Every-row-fits}
 use Rattle.law.specs.Lists.{Mem}
 use Rattle.law.specs.Node.{Kit, Node, Free, Keeps, withRow, commitRow, commitWatermark, handIn, raise, advance, fire, fireDue, fireAs, clear, clearOldest, restart}
 use Rattle.law.specs.Rows.{isDone, kept, floorOf, takeOf, takenRow, firedRow, clearedRow, stepped, produced, nextAfter, roomForOne, roomFor, roomToTake, admitted, considered, isOldest}

@@ -1,13 +1,13 @@
 -- What happens to a stop's line of productions: it grows, its head lands, its head is cleared. Assumes nothing.
-use Prim.Native.Nat.{ℕ, _≤_, _<_, max}
+use Prim.Native.Nat.{ℕ, _≤_, _<_}
 use native.Mathlib.Omega.{arith}
 use mathlib.Core.Path.{_≡_, refl, sym, _∙_, ap, subst}
 use mathlib.Core.List.{List, [], _∷_, _++_, map, append-assoc}
-use mathlib.Core.Logic.{_⊎_, inl, inr}
+use mathlib.Core.Logic.{inl, inr}
 use Rattle.model.specs.Limits.{lastTime}
 use Rattle.model.specs.declared.record.Production.{Production}
 use Rattle.law.specs.Lists.{Mem, Apart}
-use Rattle.law.proofs.Lists.{mem-left, mem-right, mem-split, mem-last, mem-is, mem-map, mem-unmap, map-++, apart-join, apart-split}
+use Rattle.law.proofs.Lists.{mem-split, mem-last, mem-is, mem-map, mem-unmap, map-++, apart-join, apart-split}
 use Rattle.law.proofs.Rows.{Adds}
 use Rattle.law.proofs.World.{Line, Front, Rising, Times, serialOf}
 

@@ -1,20 +1,17 @@
 -- Every move keeps the world sound, and keeps every number below the low watermark. Assumes nothing.
-use Prim.Native.Nat.{ℕ, _≤_, _<_, max}
+use Prim.Native.Nat.{ℕ, _≤_, _<_}
 use native.Mathlib.Omega.{arith}
-use mathlib.Core.Path.{_≡_, refl, sym, _∙_, ap, subst}
+use mathlib.Core.Path.{_≡_, sym, _∙_, ap, subst}
 use mathlib.Core.List.{List, [], _∷_, _++_, map}
 use mathlib.Core.Logic.{_⊎_, inl, inr}
 use lib.ListN.{drop}
 use Rattle.std.proofs.shelf.Tests.{cases-eq}
-use Rattle.std.specs.declared.option.Option.{Option}
-use Rattle.std.specs.declared.option.Option.the-variants.{Some, None}
 use Rattle.model.specs.Computation.{Computation, Lawful, StateBytes, Upto}
 use Rattle.model.specs.Limits.{lastTime, stops}
 use Rattle.model.specs.declared.record.Message.{Message}
 use Rattle.model.specs.declared.record.Message.the-variants.{Produced, Acknowledged}
 use Rattle.model.specs.declared.record.Name.{Name}
 use Rattle.model.specs.declared.record.Production.{Production}
-use Rattle.model.specs.declared.record.Record.{Record}
 use Rattle.law.specs.Lists.{Mem}
 use Rattle.law.specs.Rows.{takeOf, produced}
 use Rattle.law.proofs.Lines.{line-clears}
@@ -22,7 +19,7 @@ use Rattle.law.proofs.Lists.{mem-left, mem-split, mem-map, mem-unmap, map-++}
 use Rattle.law.proofs.Moves.{Step, takes, fires, lands, clears, spotFires, spotClears, News, Linked, Same, Below, Move, still, stop, advances, passes}
 use Rattle.law.proofs.Rows.{takes-of}
 use Rattle.law.proofs.Steps.{good-step, upto-due, upto-down, take-adds, fire-adds, fires-at}
-use Rattle.law.proofs.World.{Lane, World, Good, Sound, Backed, Front, Times, Names, Spotted, nameOf, nameAt, serialOf}
+use Rattle.law.proofs.World.{Lane, World, Good, Sound, Backed, Front, nameAt, serialOf}
 
 apart : (q s : ℕ) → stops ≤ q → s < stops → q ≡ s → ⊥
 apart q s k h e = omega arith

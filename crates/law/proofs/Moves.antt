@@ -1,10 +1,9 @@
 -- The moves: what can happen to a world. Each changes at most one stop. Assumes nothing.
 use Prim.Native.Nat.{ℕ, _≤_, _<_}
 use mathlib.Core.Path.{_≡_}
-use mathlib.Core.List.{List, [], _∷_, _++_, map}
+use mathlib.Core.List.{List, [], _∷_, _++_}
 use mathlib.Core.Logic.{_⊎_}
-use Rattle.std.specs.declared.option.Option.{Option}
-use Rattle.std.specs.declared.option.Option.the-variants.{Some, None}
+use Rattle.std.specs.declared.option.Option.the-variants.{Some}
 use Rattle.model.specs.Computation.{Computation, Upto}
 use Rattle.model.specs.Limits.{lastTime, mostAmount, stops}
 use Rattle.model.specs.Row.{Row}
@@ -14,7 +13,7 @@ use Rattle.model.specs.declared.record.Message.the-variants.{Produced, Acknowle
 use Rattle.model.specs.declared.record.Name.{Name}
 use Rattle.model.specs.declared.record.Production.{Production}
 use Rattle.model.specs.declared.record.Record.{Record}
-use Rattle.law.specs.Lists.{Mem, Apart}
+use Rattle.law.specs.Lists.{Mem}
 use Rattle.law.specs.Pair.{asRecord}
 use Rattle.model.specs.Row.{clearedRow}
 use Rattle.law.specs.Rows.{floorOf, takeOf, takenRow, firedRow, produced}

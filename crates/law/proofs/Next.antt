@@ -1,10 +1,10 @@
 -- The world at the end of a run, and the world that one more call makes of it. Assumes nothing.
-use Prim.Native.Nat.{ℕ, zero, suc, _≤_, _<_}
+use Prim.Native.Nat.{ℕ, zero, suc}
 use native.Mathlib.Omega.{arith}
-use mathlib.Core.Path.{_≡_, refl, sym, _∙_, ap, subst}
-use mathlib.Core.Bool.{Bool, true, false, cond, _&&_}
+use mathlib.Core.Path.{_≡_, refl, sym, _∙_, ap}
+use mathlib.Core.Bool.{cond}
 use mathlib.Core.List.{List, [], _∷_, _++_, append-nil}
-use mathlib.Core.Logic.{_⊎_, inl, inr}
+use mathlib.Core.Logic.{inl, inr}
 use lib.Dec.{eqb}
 use lib.ListN.{length, drop, take}
 use Rattle.std.proofs.shelf.Elements.{kept-by-append}
@@ -14,7 +14,6 @@ use Rattle.std.specs.shelf.Maps.{nth}
 use Rattle.std.specs.declared.option.Option.{Option}
 use Rattle.std.specs.declared.option.Option.the-variants.{Some, None}
 use Rattle.model.specs.Answers.{outcomeAnswer}
-use Rattle.model.specs.Limits.{stops}
 use Rattle.model.specs.Row.{Row}
 use Rattle.model.specs.declared.answer.Outcome.{Outcome}
 use Rattle.model.specs.declared.record.Message.{Message}
@@ -25,7 +24,7 @@ use Rattle.law.specs.Node.{withRow, wrote}
 use Rattle.law.specs.Pair.{Kits, Pair}
 use Rattle.law.specs.Run.{Event, Deed, allTaken, taken, made, landed, takenAs, madeAs, landedAs, added}
 use Rattle.law.proofs.Lists.{mem-split}
-use Rattle.law.proofs.Moves.{Step, Linked, Same, Move, still, stop}
+use Rattle.law.proofs.Moves.{Same, stop}
 use Rattle.law.proofs.World.{Lane, World}
 
 pub drop-length : {X : Type 0} (xs ys : List X) → drop (length xs) (xs ++ ys) ≡ ys

@@ -1,7 +1,6 @@
 -- Each of the eleven calls keeps the queues right. Assumes nothing.
 use Prim.Native.Nat.{ℕ}
-use mathlib.Core.Path.{_≡_, refl}
-use mathlib.Core.Bool.{Bool, true, false, cond}
+use mathlib.Core.Bool.{cond}
 use mathlib.Core.List.{List, [], _∷_, _++_}
 use lib.Dec.{leb, ltb, eqb}
 use lib.ListN.{length}
@@ -21,9 +20,8 @@ use Rattle.model.specs.declared.record.Message.{Message}
 use Rattle.model.specs.declared.record.Message.the-variants.{Produced, Acknowledged}
 use Rattle.model.specs.declared.record.Production.{Production}
 use Rattle.law.specs.Node.{Free, Keeps, handIn, raise, fire, clear, restart}
-use Rattle.law.specs.Pair.{Kits, Pair, happens, atCollector, atSpotter, atNode, withLink, sendPending, sendHead, sendFrom, repeatOf, receive, arrives, asRecord, deliverOf, lowWatermark}
-use Rattle.model.specs.Row.{oldest}
-use Rattle.law.specs.Stops.{pendingStops}
+use Rattle.law.specs.Pair.{Kits, Pair, happens, atCollector, atSpotter, atNode, withLink, sendPending, sendHead, sendFrom, repeatOf, arrives, asRecord, deliverOf, lowWatermark}
+use Rattle.law.specs.Stops.{oldest, pendingStops}
 use Rattle.law.proofs.Queues.{Held, turned-held, hand-in-held, raise-held, advance-held, fire-held, clear-held, restart-held}
 
 -- both nodes' queues are right while they are on

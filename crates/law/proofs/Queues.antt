@@ -1,5 +1,5 @@
 -- While a node is on, its queue holds exactly the stops with something pending, each once. Assumes nothing.
-use Prim.Native.Nat.{ℕ, zero, suc, _+_, _≤_, _<_}
+use Prim.Native.Nat.{ℕ, zero, suc, _+_, _<_}
 use native.Mathlib.Omega.{arith}
 use mathlib.Core.Path.{_≡_, refl, sym, _∙_, ap, subst}
 use mathlib.Core.Bool.{Bool, true, false, cond, not, _&&_, _||_, false≢true}
@@ -12,7 +12,7 @@ use Rattle.std.specs.shelf.Lists.{kept-by}
 use Rattle.std.specs.declared.option.Option.{Option}
 use Rattle.std.specs.declared.option.Option.the-variants.{Some, None}
 use Rattle.model.specs.Limits.{lastTime, stops, pageBytes}
-use Rattle.model.specs.Power.{Power, renewed, restartAnswer, restarted}
+use Rattle.model.specs.Power.{renewed, restartAnswer, restarted}
 use Rattle.model.specs.Row.{Row}
 use Rattle.model.specs.declared.answer.Answer.{Answer}
 use Rattle.model.specs.declared.answer.Answer.the-variants.{OutOfRange, Off, Nothing, NotOldest}
@@ -28,7 +28,7 @@ use Rattle.law.specs.Rows.{considered, takenRow, firedRow, isOldest}
 use Rattle.law.specs.Stops.{listed, pendingBelow, pendingStops, earliest}
 use Rattle.law.proofs.Best.{earliest-due, less}
 use Rattle.law.proofs.Judged.{considered-stop, considered-on}
-use Rattle.law.proofs.Lists.{mem-left, mem-last, mem-split, mem-snoc, apart-join, apart-snoc, kept-mem, mem-kept, kept-passes, apart-kept}
+use Rattle.law.proofs.Lists.{mem-left, mem-last, mem-snoc, apart-snoc, kept-mem, mem-kept, kept-passes, apart-kept}
 use Rattle.law.proofs.Next.{row-at, row-off}
 
 stands-mem : (s : ℕ) (q : List ℕ) → stands s q ≡ true → Mem s q

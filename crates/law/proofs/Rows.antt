@@ -1,22 +1,22 @@
 -- What a take and a fire do to a row, of any node. Assumes nothing.
-use Prim.Native.Nat.{ℕ, _+_, _≤_, _<_, max}
+use Prim.Native.Nat.{ℕ, _≤_, _<_}
 use native.Mathlib.Omega.{arith}
 use mathlib.Core.Path.{_≡_, refl, sym, _∙_, ap, subst}
-use mathlib.Core.Bool.{Bool, true, false, cond}
+use mathlib.Core.Bool.{Bool, true, false}
 use mathlib.Core.List.{List, [], _∷_, _++_, map}
 use mathlib.Core.Logic.{_⊎_, inl, inr}
 use lib.Dec.{leb}
 use Rattle.std.proofs.shelf.Tests.{leb-false}
 use Rattle.std.specs.declared.option.Option.{Option}
 use Rattle.std.specs.declared.option.Option.the-variants.{Some, None}
-use Rattle.model.specs.Computation.{Computation, Lawful, Takes, Fires, StateBytes, Emits}
+use Rattle.model.specs.Computation.{Computation, Takes, StateBytes, Emits}
 use Rattle.model.specs.Limits.{lastTime, mostAmount}
 use Rattle.model.specs.Row.{Row}
 use Rattle.model.specs.declared.record.Name.{Name}
 use Rattle.model.specs.declared.record.Production.{Production}
 use Rattle.model.specs.declared.record.Record.{Record}
 use Rattle.law.specs.Lists.{Mem, Apart}
-use Rattle.law.specs.Rows.{floorOf, takeOf, takenRow, firedRow, stepped, produced, nextAfter}
+use Rattle.law.specs.Rows.{floorOf, takeOf, takenRow, stepped, produced, nextAfter}
 use Rattle.law.proofs.Lists.{mem-kept, kept-mem, mem-left, mem-last, mem-snoc}
 use Rattle.law.proofs.Moves.{Lets}
 use Rattle.law.proofs.World.{Remembers, Rising, serialOf}

@@ -1,5 +1,5 @@
 -- The law over every run. Assumes nothing.
-use Prim.Native.Nat.{ℕ, zero, suc, _≤_, _<_, max}
+use Prim.Native.Nat.{ℕ, zero, suc, _≤_, _<_}
 use native.Mathlib.Nat.{le-refl}
 use native.Mathlib.Omega.{arith}
 use mathlib.Core.Path.{_≡_, refl, sym, _∙_, ap, subst}
@@ -8,11 +8,11 @@ use mathlib.Core.List.{List, [], _∷_, _++_, map}
 use mathlib.Core.Logic.{_⊎_, inl, inr}
 use lib.Dec.{leb, ltb, eqb}
 use lib.ListN.{getD, length, replicate}
-use Rattle.std.proofs.shelf.Tests.{cond-both, eqb-true, eq-eqb, or-left, or-right, not-from-false, not-from-true, both-ways, and-from, lt-ltb, le-leb, cases-lt}
+use Rattle.std.proofs.shelf.Tests.{eqb-true, eq-eqb, or-left, or-right, not-from-true, both-ways, and-from, lt-ltb, le-leb, cases-lt}
 use Rattle.std.specs.shelf.Lists.{kept-by}
 use Rattle.std.specs.declared.option.Option.{Option}
 use Rattle.std.specs.declared.option.Option.the-variants.{Some, None}
-use Rattle.model.specs.Computation.{Computation, Lawful, StateBytes, Upto, zeroState}
+use Rattle.model.specs.Computation.{Computation, StateBytes, Upto, zeroState}
 use Rattle.model.specs.Limits.{lastTime, mostAmount, stops, mostMessages, inRange}
 use Rattle.model.specs.Row.{Row, firstRow}
 use Rattle.model.specs.declared.answer.Outcome.{Outcome}
@@ -21,9 +21,8 @@ use Rattle.model.specs.declared.record.Message.the-variants.{Produced}
 use Rattle.model.specs.declared.record.Production.{Production}
 use Rattle.law.specs.Law.{Law, Throughout, Every-run}
 use Rattle.law.specs.Lists.{Mem, Apart}
-use Rattle.law.specs.Node.{Node, Kit, Keeps}
+use Rattle.law.specs.Node.{Kit, Keeps}
 use Rattle.law.specs.Pair.{Kits, Pair, happens, lowWatermark, asRecord}
-use Rattle.law.specs.Rows.{floorOf}
 use Rattle.law.specs.Run.{Event, New, Run, moments, deedOf, hasSerial, made, landed, waiting}
 use Rattle.law.proofs.Best.{low-tells, low-from}
 use Rattle.law.proofs.Calls.{call-moves}
@@ -33,7 +32,7 @@ use Rattle.law.proofs.Moved.{sound-move, below-move}
 use Rattle.law.proofs.Moves.{Below}
 use Rattle.law.proofs.Next.{laneOf, worldOf, nextWorld}
 use Rattle.law.proofs.QueueCalls.{Holds, call-holds}
-use Rattle.law.proofs.World.{Lane, World, Good, Sound, Backed, Ranged, Front, Line, serialOf, nameOf, nameAt}
+use Rattle.law.proofs.World.{Lane, Good, Sound, Backed, Ranged, Front, Line, serialOf}
 
 -- zeros are bytes
 zeros-small : (n i : ℕ) → getD (replicate n 0) i 0 < 256

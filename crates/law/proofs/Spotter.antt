@@ -1,5 +1,5 @@
 -- Each call that writes at the spotter is a move, or none. Assumes nothing.
-use Prim.Native.Nat.{ℕ, _≤_, _<_}
+use Prim.Native.Nat.{ℕ, _<_}
 use native.Mathlib.Omega.{arith}
 use mathlib.Core.Path.{_≡_, refl, sym, _∙_, ap, subst}
 use mathlib.Core.Bool.{Bool, true, false, cond, _&&_, _||_}
@@ -10,28 +10,24 @@ use Rattle.std.proofs.shelf.Tests.{cond-both, leb-true, leb-false, ltb-true, eq
 use Rattle.std.specs.declared.option.Option.{Option}
 use Rattle.std.specs.declared.option.Option.the-variants.{Some, None}
 use Rattle.model.specs.Computation.{Computation}
-use Rattle.model.specs.Limits.{lastTime, stops}
+use Rattle.model.specs.Limits.{stops}
 use Rattle.model.specs.Power.{commitAnswer, renewed}
 use Rattle.model.specs.Row.{Row}
 use Rattle.model.specs.declared.answer.Answer.{Answer}
 use Rattle.model.specs.declared.answer.Answer.the-variants.{OutOfRange, Off, Nothing, NotOldest}
 use Rattle.model.specs.declared.record.Message.{Message}
 use Rattle.model.specs.declared.record.Message.the-variants.{Produced, Acknowledged}
-use Rattle.model.specs.declared.record.Name.{Name}
 use Rattle.model.specs.declared.record.Production.{Production}
-use Rattle.model.specs.declared.record.Record.{Record}
 use Rattle.law.specs.Lists.{Mem}
-use Rattle.law.specs.Node.{Node, Free, Keeps, withRow, wrote, commitRow, commitWatermark, handIn, raise, fire, fireDue, fireAs, clear, clearOldest}
+use Rattle.law.specs.Node.{Free, Keeps, withRow, wrote, commitRow, commitWatermark, handIn, raise, fire, fireDue, fireAs, clear, clearOldest}
 use Rattle.law.specs.Pair.{Kits, Pair, atSpotter, arrives, asRecord, reply, lowWatermark}
-use Rattle.model.specs.Answers.{isDone, isSeen, isCut}
-use Rattle.model.specs.Row.{clearedRow, roomForOne}
-use Rattle.law.specs.Rows.{considered, takeOf, takenRow, firedRow, stepped, isOldest}
+use Rattle.law.specs.Rows.{isDone, isSeen, considered, takeOf, takenRow, firedRow, clearedRow, stepped, roomForOne, isOldest}
 use Rattle.law.specs.Run.{Event, lands, other, taken, made, landed}
 use Rattle.law.specs.Stops.{earliest}
 use Rattle.law.proofs.Best.{earliest-due, low-tells}
 use Rattle.law.proofs.Judged.{considered-plain, considered-lets, considered-stop, considered-seen, refused-wrote, commit-wrote, commit-unseen, done-renewed}
 use Rattle.law.proofs.Lists.{mem-split, mem-last}
-use Rattle.law.proofs.Moves.{Step, News, Linked, Move, still, stop, passes, Below}
+use Rattle.law.proofs.Moves.{Step, News, Linked, Move, still, stop, passes}
 use Rattle.law.proofs.Next.{laneOf, worldOf, grown, nextWorld, lane-path, row-at, row-off, took-none, same-grown}
 use Rattle.law.proofs.World.{Lane, World}
 

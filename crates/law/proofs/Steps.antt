@@ -1,31 +1,28 @@
 -- What is good of a stop stays good, whatever step it takes. Assumes nothing.
-use Prim.Native.Nat.{ℕ, _≤_, _<_, max}
+use Prim.Native.Nat.{ℕ, _≤_, max}
 use native.Mathlib.Nat.{le-refl}
 use native.Mathlib.Omega.{arith}
-use mathlib.Core.Path.{_≡_, refl, sym, _∙_, ap, subst}
+use mathlib.Core.Path.{_≡_, sym, _∙_, ap, subst}
 use mathlib.Core.List.{List, [], _∷_, _++_, map}
 use mathlib.Core.Logic.{_⊎_, inl, inr}
 use lib.Dec.{leb}
 use lib.ListN.{drop}
 use Rattle.std.specs.declared.option.Option.{Option}
 use Rattle.std.specs.declared.option.Option.the-variants.{Some, None}
-use Rattle.model.specs.Computation.{Computation, Lawful, Takes, Fires, StateBytes, Emits, Upto}
-use Rattle.model.specs.Limits.{lastTime, stops}
-use Rattle.model.specs.Row.{Row}
+use Rattle.model.specs.Computation.{Computation, Lawful, Takes, Fires, StateBytes, Upto}
+use Rattle.model.specs.Limits.{lastTime}
 use Rattle.model.specs.declared.record.Message.{Message}
 use Rattle.model.specs.declared.record.Message.the-variants.{Produced, Acknowledged}
-use Rattle.model.specs.declared.record.Name.{Name}
 use Rattle.model.specs.declared.record.Production.{Production}
 use Rattle.model.specs.declared.record.Record.{Record}
 use Rattle.law.specs.Lists.{Mem, Apart}
 use Rattle.law.specs.Pair.{asRecord}
-use Rattle.model.specs.Row.{clearedRow}
-use Rattle.law.specs.Rows.{floorOf, takeOf, takenRow, firedRow, stepped, produced, nextAfter}
+use Rattle.law.specs.Rows.{floorOf, takeOf, takenRow, firedRow, clearedRow, produced, nextAfter}
 use Rattle.law.proofs.Lines.{line-grows, times-grow, first-waits, line-lands, line-clears, line-cleared, times-land}
 use Rattle.law.proofs.Lists.{mem-left, mem-last, mem-map, map-++, apart-snoc, kept-mem}
 use Rattle.law.proofs.Moves.{Lets, Step, takes, fires, lands, clears, spotFires, spotClears}
 use Rattle.law.proofs.Rows.{Adds, adds, remembers-step, remembers-take, not-known, taken-names, takes-of}
-use Rattle.law.proofs.World.{Lane, World, Names, Spotted, Times, Line, Remembers, Good, Backed, nameOf, nameAt, serialOf}
+use Rattle.law.proofs.World.{Lane, Times, Line, Remembers, Good, Backed, nameOf, nameAt, serialOf}
 
 pub upto-down : (b t : ℕ) (o : Option ℕ) → b ≤ t → Upto t o → Upto b o
 upto-down b t None le u = tt

@@ -3,7 +3,7 @@ use mathlib.Core.Path.{_≡_, refl, sym, _∙_, ap, subst}
 use mathlib.Core.List.{List, [], _∷_, _++_, append-assoc, append-nil}
 use Rattle.model.specs.declared.answer.Outcome.{Outcome}
 use Rattle.model.specs.declared.call.Call.{Call}
-use Rattle.law.specs.Law.{Law, Told, Throughout, Every-telling}
+use Rattle.law.specs.Law.{Told, Every-telling}
 use Rattle.law.specs.Node.{Keeps}
 use Rattle.law.specs.Pair.{Kits, Pair}
 use Rattle.law.specs.Run.{Event, Happened, Run, callsOf, outcomesOf}

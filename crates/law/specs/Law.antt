@@ -1,7 +1,7 @@
 -- The law: what holds at every moment of every run from a new pair. Assumes nothing.
 use Prim.Native.Nat.{ℕ, _+_, _≤_, _<_}
 use mathlib.Core.Path.{_≡_}
-use mathlib.Core.Bool.{Bool, true, false}
+use mathlib.Core.Bool.{true}
 use mathlib.Core.List.{List, [], _∷_, _++_, map}
 use lib.ListN.{length}
 use Rattle.model.specs.Computation.{Computation, StateBytes}
@@ -10,7 +10,6 @@ use Rattle.model.specs.declared.answer.Outcome.{Outcome}
 use Rattle.model.specs.declared.call.Call.{Call}
 use Rattle.model.specs.declared.record.Message.the-variants.{Produced}
 use Rattle.model.specs.declared.record.Production.{Production}
-use Rattle.model.specs.declared.record.Record.{Record}
 use Rattle.law.specs.Lists.{Mem, Apart, total}
 use Rattle.law.specs.Node.{Kit, Node}
 use Rattle.law.specs.Pair.{Kits, Pair, lowWatermark, asRecord}

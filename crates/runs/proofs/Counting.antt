@@ -1,7 +1,6 @@
 -- The counter and the detector, on the bytes of their states, keep what the law asks. Assumes nothing.
 use Prim.Native.Nat.{ℕ, _≤_}
-use mathlib.Core.Path.{_≡_, refl}
-use Rattle.model.specs.Computation.{zeroState}
+use mathlib.Core.Path.{refl}
 use Rattle.model.proofs.OnBytes.{lawful-on-bytes, conserves-on-bytes, totals-on-bytes}
 use Rattle.counter.specs.Counter.{counter, CounterSound, held}
 use Rattle.counter.proofs.Laws.{counter-lawful, counter-conserves}

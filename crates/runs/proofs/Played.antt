@@ -1,5 +1,5 @@
 -- What is played is a run; and the runs that break the law by wrong rules. Assumes nothing.
-use Prim.Native.Nat.{ℕ, _≤_, _<_}
+use Prim.Native.Nat.{ℕ, _≤_}
 use native.Mathlib.Omega.{arith}
 use mathlib.Core.Path.{_≡_, refl, ap}
 use mathlib.Core.List.{List, [], _∷_}
@@ -10,7 +10,7 @@ use Rattle.model.specs.declared.call.Call.the-variants.{HandIn, Advance, Fire, 
 use Rattle.model.specs.declared.call.Junk.the-variants.{Fill}
 use Rattle.counter.specs.Counter.{earliestFrom}
 use Rattle.law.specs.Law.{Law}
-use Rattle.law.specs.Pair.{Kits, Pair, happens}
+use Rattle.law.specs.Pair.{Pair, happens}
 use Rattle.law.specs.Run.{Event, Rules, RunBy, New, outcomesOf}
 use Rattle.model.specs.FirstBest.{firstBest}
 use Rattle.law.specs.Stops.{lowBelow, pendingBelow, sumBelow}

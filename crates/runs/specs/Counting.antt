@@ -2,7 +2,6 @@
 -- Assumes nothing.
 use Prim.Native.Nat.{ℕ, _≤_}
 use mathlib.Core.List.{List}
-use Rattle.model.specs.Computation.{StateBytes}
 use Rattle.model.specs.OnBytes.{onBytes}
 use Rattle.counter.specs.Counter.{counter, held}
 use Rattle.detector.specs.Detector.{detector}

@@ -12,7 +12,6 @@ use Rattle.model.specs.declared.answer.Answer.{Answer}
 use Rattle.model.specs.declared.answer.Answer.the-variants.{NotOldest, NoMessage}
 use Rattle.model.specs.declared.answer.Outcome.{Outcome}
 use Rattle.model.specs.declared.answer.Outcome.the-variants.{Plain}
-use Rattle.model.specs.declared.call.Call.{Call}
 use Rattle.model.specs.declared.call.Call.the-variants.{HandIn, Advance, Fire, Send, Lose, Repeat, Deliver, Pass, Restart, Show, MarkDone}
 use Rattle.model.specs.declared.record.Message.{Message}
 use Rattle.model.specs.declared.record.Message.the-variants.{Produced, Acknowledged}
@@ -21,10 +20,7 @@ use Rattle.model.specs.declared.record.Record.{Record}
 use Rattle.law.specs.Law.{Law}
 use Rattle.law.specs.Node.{Kit, Node, Free, commitRow, raise}
 use Rattle.law.specs.Pair.{Kits, Pair, happens, atCollector, atSpotter, withLink}
-use Rattle.model.specs.Answers.{isDone}
-use Rattle.model.specs.Row.{clearedRow}
-use Rattle.model.specs.Names.{kept}
-use Rattle.law.specs.Rows.{considered, floorOf, takeOf, stepped, takenRow}
+use Rattle.law.specs.Rows.{isDone, considered, clearedRow, kept, floorOf, takeOf, takenRow}
 use Rattle.law.specs.Run.{Event, Rules, RunBy}
 use Rattle.law.specs.Stops.{lowest}
 
