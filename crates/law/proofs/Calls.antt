@@ -26,7 +26,8 @@ use Rattle.law.specs.Lists.{Mem}
 use Rattle.law.specs.Node.{Free, Keeps, handIn, raise, fire, clear, restart}
 use Rattle.law.specs.Pair.{Kits, Pair, happens, atCollector, atSpotter, atNode, withLink, sendPending, sendHead, sendFrom, repeatOf, arrives, asRecord, deliverOf, lowWatermark}
 use Rattle.law.specs.Run.{Event, Deed, fires, other, arrival, deedOf}
-use Rattle.law.specs.Stops.{oldest, pendingStops}
+use Rattle.model.specs.Row.{oldest}
+use Rattle.law.specs.Stops.{pendingStops}
 use Rattle.law.proofs.Collector.{hand-in-moves, fire-moves, advance-moves, acknowledge-moves}
 use Rattle.law.proofs.Lists.{mem-split}
 use Rattle.law.proofs.Moves.{News, Move, still}

@@ -24,7 +24,9 @@ use Rattle.model.specs.declared.record.Record.{Record}
 use Rattle.law.specs.Lists.{Mem}
 use Rattle.law.specs.Node.{Free, Keeps, withRow, wrote, commitRow, commitWatermark, handIn, raise, advance, fire, fireDue, fireAs, clear, clearOldest}
 use Rattle.law.specs.Pair.{Kits, Pair, atCollector, withLink}
-use Rattle.law.specs.Rows.{isDone, isCut, considered, takeOf, takenRow, firedRow, clearedRow, produced, roomForOne, isOldest}
+use Rattle.model.specs.Answers.{isDone, isCut}
+use Rattle.model.specs.Row.{clearedRow, roomForOne}
+use Rattle.law.specs.Rows.{considered, takeOf, takenRow, firedRow, produced, isOldest}
 use Rattle.law.specs.Run.{Event, hands, fires, other, allTaken, taken, made, landed}
 use Rattle.law.specs.Stops.{earliest}
 use Rattle.law.proofs.Best.{earliest-due}
@@ -105,9 +107,9 @@ module _ (kits : Kits) (ck : Keeps (kits .collector)) (es : List Event) (p : Pai
       refl refl (λ m k. inl k)
 
   -- the answer of a commit, whether it wrote, and the rows that it leaves
-  abbrev did : Free → Bool
-  did free =
-      wrote (kits .collector) (p .collector .power) (commitAnswer (kits .collector .cost) (free .point) (p .collector .power))
+  abbrev did : Free → ℕ → Bool
+  did free s =
+      wrote (kits .collector) (p .collector .power) (commitAnswer (kits .collector .cost) (free .point s) (p .collector .power))
 
   abbrev rowsBy : Bool → ℕ → Row → ℕ → Row
   rowsBy b s new = cond b (withRow s new rows) rows
@@ -122,12 +124,12 @@ module _ (kits : Kits) (ck : Keeps (kits .collector)) (es : List Event) (p : Pai
       → tookAt s (T true) ≡ tk
       → ((q : ℕ) → (q ≡ s → ⊥) → tookAt q (T true) ≡ taken kits q es)
       → let crow = rowsBy (renewed (kits .collector .turn) (p .collector .power)) s new in
-      Moves (world crow (T (did free)) (λ q. cond (did free) (grew crow q) []) (p .link))
+      Moves (world crow (T (did free s)) (λ q. cond (did free s) (grew crow q) []) (p .link))
   commit-grows free s new T x tk none h grows step here there =
       subst
-      (λ b. Moves (world (rowsBy b s new) (T (did free)) (λ q. cond (did free) (grew (rowsBy b s new) q) []) (p .link)))
-      (commit-wrote (kits .collector) (ck .turn-ends) (free .point) (p .collector .power))
-      (at (did free))
+      (λ b. Moves (world (rowsBy b s new) (T (did free s)) (λ q. cond (did free s) (grew (rowsBy b s new) q) []) (p .link)))
+      (commit-wrote (kits .collector) (ck .turn-ends) (free .point s) (p .collector .power))
+      (at (did free s))
     where
       at : (b : Bool) → Moves (world (rowsBy b s new) (T b) (λ q. cond b (grew (rowsBy b s new) q) []) (p .link))
       at true = grows-at s new (T true) x tk h grows step here there

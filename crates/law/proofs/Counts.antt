@@ -25,7 +25,8 @@ use Rattle.law.specs.Law.{Throughout, Counted, Every-count}
 use Rattle.law.specs.Lists.{Mem, total}
 use Rattle.law.specs.Node.{Keeps, Free, wrote, handIn, commitRow}
 use Rattle.law.specs.Pair.{Kits, Pair, happens, asRecord}
-use Rattle.law.specs.Rows.{isDone, takeOf, takenRow, produced, considered}
+use Rattle.model.specs.Answers.{isDone}
+use Rattle.law.specs.Rows.{takeOf, takenRow, produced, considered}
 use Rattle.law.specs.Run.{Event, Run, fires, lands, other, deedOf, takenAs, allTaken, taken, made, landed, waiting, collectorWrote, arrival}
 use Rattle.law.proofs.Calls.{call-moves}
 use Rattle.law.proofs.Judged.{considered-plain, considered-stop, refused-wrote}

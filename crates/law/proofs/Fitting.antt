@@ -24,7 +24,10 @@ use Rattle.model.specs.declared.record.Record.{Record}
 use Rattle.law.specs.Fits.{NameFits, ProductionFits, RowFits, NodeFits, Every-row-fits}
 use Rattle.law.specs.Lists.{Mem}
 use Rattle.law.specs.Node.{Kit, Node, Free, Keeps, withRow, commitRow, commitWatermark, handIn, raise, advance, fire, fireDue, fireAs, clear, clearOldest, restart}
-use Rattle.law.specs.Rows.{isDone, kept, floorOf, takeOf, takenRow, firedRow, clearedRow, stepped, produced, nextAfter, roomForOne, roomFor, roomToTake, admitted, considered, isOldest}
+use Rattle.model.specs.Answers.{isDone}
+use Rattle.model.specs.Names.{kept}
+use Rattle.model.specs.Row.{clearedRow, roomForOne}
+use Rattle.law.specs.Rows.{floorOf, takeOf, takenRow, firedRow, stepped, produced, nextAfter, roomFor, roomToTake, admitted, considered, isOldest}
 use Rattle.law.specs.Run.{NewNode}
 use Rattle.law.specs.Stops.{earliest, pendingStops}
 use Rattle.law.proofs.Best.{earliest-due}
@@ -303,7 +306,7 @@ module _ (kit : Kit) (keeps : Keeps kit) where
     restart-fits : (left tear : ℕ) (junk : List ℕ) → NodeFits kit (restart free left tear junk n .1)
     restart-fits left tear junk =
         cond-both {A = Answer × Node} (leb tear 2 && eqb (length junk) pageBytes)
-        (restartAnswer left (free .point) (n .power), record { row = n .row; w = n .w; power = restarted left tear (free .owed) (n .power); queue = pendingStops (n .row) })
+        (restartAnswer left (free .wake) (n .power), record { row = n .row; w = n .w; power = restarted left tear (free .owed) (n .power); queue = pendingStops (n .row) })
         (OutOfRange, n) (λ y. NodeFits kit (y .1))
         (λ _. record { watermark = f .watermark; rows = f .rows })
         (λ _. f)

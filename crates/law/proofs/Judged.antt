@@ -112,10 +112,8 @@ same-name m n e =
 
 name-same : (m n : Name) → m ≡ n → sameName m n ≡ true
 name-same m n e =
-    and-from
-    (eqb (m .sender) (n .sender)) (eqb (m .serial) (n .serial) && eqb (m .time) (n .time))
-    (eq-eqb (m .sender) (n .sender) (ap (λ (x : Name). x .sender) e))
-    (and-from (eqb (m .serial) (n .serial)) (eqb (m .time) (n .time)) (eq-eqb (m .serial) (n .serial) (ap (λ (x : Name). x .serial) e)) (eq-eqb (m .time) (n .time) (ap (λ (x : Name). x .time) e)))
+    and-from (eqb (m .serial) (n .serial)) (eqb (m .time) (n .time) && eqb (m .sender) (n .sender)) (eq-eqb (m .serial) (n .serial) (ap (λ (x : Name). x .serial) e))
+    (and-from (eqb (m .time) (n .time)) (eqb (m .sender) (n .sender)) (eq-eqb (m .time) (n .time) (ap (λ (x : Name). x .time) e)) (eq-eqb (m .sender) (n .sender) (ap (λ (x : Name). x .sender) e)))
 
 pub mem-seen : (n : Name) (names : List Name) → Mem n names → seen n names ≡ true
 mem-seen n [] m = absurd m

@@ -21,7 +21,8 @@ use Rattle.model.specs.declared.record.Message.the-variants.{Produced, Acknowle
 use Rattle.model.specs.declared.record.Production.{Production}
 use Rattle.law.specs.Node.{Free, Keeps, handIn, raise, fire, clear, restart}
 use Rattle.law.specs.Pair.{Kits, Pair, happens, atCollector, atSpotter, atNode, withLink, sendPending, sendHead, sendFrom, repeatOf, arrives, asRecord, deliverOf, lowWatermark}
-use Rattle.law.specs.Stops.{oldest, pendingStops}
+use Rattle.model.specs.Row.{oldest}
+use Rattle.law.specs.Stops.{pendingStops}
 use Rattle.law.proofs.Queues.{Held, turned-held, hand-in-held, raise-held, advance-held, fire-held, clear-held, restart-held}
 
 -- both nodes' queues are right while they are on

@@ -21,7 +21,9 @@ use Rattle.model.specs.declared.record.Production.{Production}
 use Rattle.law.specs.Lists.{Mem}
 use Rattle.law.specs.Node.{Free, Keeps, withRow, wrote, commitRow, commitWatermark, handIn, raise, fire, fireDue, fireAs, clear, clearOldest}
 use Rattle.law.specs.Pair.{Kits, Pair, atSpotter, arrives, asRecord, reply, lowWatermark}
-use Rattle.law.specs.Rows.{isDone, isSeen, considered, takeOf, takenRow, firedRow, clearedRow, stepped, roomForOne, isOldest}
+use Rattle.model.specs.Answers.{isDone, isSeen}
+use Rattle.model.specs.Row.{clearedRow, roomForOne}
+use Rattle.law.specs.Rows.{considered, takeOf, takenRow, firedRow, stepped, isOldest}
 use Rattle.law.specs.Run.{Event, lands, other, taken, made, landed}
 use Rattle.law.specs.Stops.{earliest}
 use Rattle.law.proofs.Best.{earliest-due, low-tells}
@@ -132,9 +134,9 @@ module _ (kits : Kits) (sk : Keeps (kits .spotter)) (es : List Event) (p : Pair)
       ]
         where
           done : (isDone answer ≡ true) ⊎ (isSeen answer ≡ true) → renewed (kits .spotter .turn) (p .spotter .power) ≡ true
-          done (inl e) = done-renewed (kits .spotter) (sk .turn-ends) (free .point) (p .spotter .power) e
+          done (inl e) = done-renewed (kits .spotter) (sk .turn-ends) (free .point s) (p .spotter .power) e
           done (inr e) =
-              absurd (both-ways (isSeen answer) (commit-unseen (kits .spotter .cost) (free .point) (p .spotter .power)) e)
+              absurd (both-ways (isSeen answer) (commit-unseen (kits .spotter .cost) (free .point s) (p .spotter .power)) e)
 
       taking
           : s < stops

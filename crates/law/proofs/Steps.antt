@@ -17,7 +17,8 @@ use Rattle.model.specs.declared.record.Production.{Production}
 use Rattle.model.specs.declared.record.Record.{Record}
 use Rattle.law.specs.Lists.{Mem, Apart}
 use Rattle.law.specs.Pair.{asRecord}
-use Rattle.law.specs.Rows.{floorOf, takeOf, takenRow, firedRow, clearedRow, produced, nextAfter}
+use Rattle.model.specs.Row.{clearedRow}
+use Rattle.law.specs.Rows.{floorOf, takeOf, takenRow, firedRow, produced, nextAfter}
 use Rattle.law.proofs.Lines.{line-grows, times-grow, first-waits, line-lands, line-clears, line-cleared, times-land}
 use Rattle.law.proofs.Lists.{mem-left, mem-last, mem-map, map-++, apart-snoc, kept-mem}
 use Rattle.law.proofs.Moves.{Lets, Step, takes, fires, lands, clears, spotFires, spotClears}

@@ -20,7 +20,10 @@ use Rattle.model.specs.declared.record.Record.{Record}
 use Rattle.law.specs.Law.{Law}
 use Rattle.law.specs.Node.{Kit, Node, Free, commitRow, raise}
 use Rattle.law.specs.Pair.{Kits, Pair, happens, atCollector, atSpotter, withLink}
-use Rattle.law.specs.Rows.{isDone, considered, clearedRow, kept, floorOf, takeOf, takenRow}
+use Rattle.model.specs.Answers.{isDone}
+use Rattle.model.specs.Row.{clearedRow}
+use Rattle.model.specs.Names.{kept}
+use Rattle.law.specs.Rows.{considered, floorOf, takeOf, takenRow}
 use Rattle.law.specs.Run.{Event, Rules, RunBy}
 use Rattle.law.specs.Stops.{lowest}
 
