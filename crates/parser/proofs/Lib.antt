@@ -1,6 +1,6 @@
 mod Answered
 mod Digits
-mod Fronts
+pub mod Fronts
 mod SaidBack
 mod Spoken
 mod Taken

@@ -1,0 +1,2 @@
+mod Loop
+mod Room
