@@ -1,18 +1,17 @@
 -- A copy that is refreshed after a commit is done agrees with the store below.
 use Prim.Native.Nat.{ℕ, _%_, _<_, _≤_}
 use native.Mathlib.Omega.{arith}
-use mathlib.Core.Path.{_≡_, refl, sym, ap, subst, _∙_}
+use mathlib.Core.Path.{_≡_, refl, sym, ap, _∙_}
 use mathlib.Core.Logic.{_≢_, ⊎-elim}
-use mathlib.Core.Bool.{Bool, true, false, cond, _&&_}
+use mathlib.Core.Bool.{Bool, true, false, cond}
 use mathlib.Core.List.{List, []}
 use lib.ListN.{length, getD, set}
-use lib.Dec.{leb, ltb, eqb}
+use lib.Dec.{leb}
 use Rattle.std.specs.declared.option.Option.the-variants.{Some}
 use Rattle.std.proofs.shelf.Lists.{getD-set-same, getD-set-other, length-set}
 use Rattle.std.proofs.shelf.Tests.{cases-eq, cond-true, and-from, and-parts, or-left, ltb-true, leb-true, le-leb, eq-eqb, eqb-true}
-use Rattle.model.specs.Power.{commitAnswer, renewed, spent}
+use Rattle.model.specs.Power.{renewed}
 use Rattle.model.specs.Store.{Stored, rowFits, judged, storeAnswer, committed}
-use Rattle.model.specs.declared.answer.Answer.{Answer}
 use Rattle.model.specs.declared.answer.Answer.the-variants.{Done, Cut}
 use Rattle.model.specs.declared.answer.CutPoint.{CutPoint}
 use Rattle.cache.specs.declared.entries.Entry.{Entry}

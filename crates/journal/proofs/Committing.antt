@@ -10,9 +10,7 @@ use lib.Dec.{leb, eqb}
 use Rattle.std.proofs.shelf.Lists.{getD-set-same, getD-set-other, set-getD, length-set}
 use Rattle.std.proofs.shelf.Tests.{cases-order, cases-bool, cond-true, cond-false, le-leb, leb-false, ne-eqb, eqb-true, or-left, both-ways}
 use Rattle.model.specs.Answers.{answerNumber}
-use Rattle.model.specs.Limits.{pageBytes}
-use Rattle.model.specs.Power.{Power, commitAnswer, renewed, spent}
-use Rattle.model.specs.Store.{Stored}
+use Rattle.model.specs.Power.{commitAnswer, renewed}
 use Rattle.model.specs.declared.answer.Answer.{Answer}
 use Rattle.model.specs.declared.answer.Answer.the-variants.{Done, OutOfRange, Off, Late, Seen, Early, Over, Full, NoRoom, Cut, Nothing, LinkFull, NoMessage, NotOldest}
 use Rattle.model.specs.declared.answer.CutPoint.{CutPoint}

@@ -1,10 +1,10 @@
 -- A card of zeros is a sound store of zero rows.
-use Prim.Native.Nat.{ℕ, _+_, _<_, _≤_}
+use Prim.Native.Nat.{ℕ, _+_, _<_}
 use native.Mathlib.Omega.{arith}
 use mathlib.Core.Path.{_≡_, refl, sym, ap, subst, _∙_}
 use mathlib.Core.Bool.{false}
-use mathlib.Core.List.{List, []}
-use lib.ListN.{length, getD, replicate}
+use mathlib.Core.List.{[]}
+use lib.ListN.{getD}
 use Rattle.std.proofs.shelf.Lists.{getD-replicate, length-replicate}
 use Rattle.std.proofs.shelf.Tests.{cond-false, ne-eqb}
 use Rattle.stores.specs.Cards.{Medium, zeroPage, blankMedium}

@@ -1,12 +1,12 @@
 -- From what a commit or a restart did to the card to what the store promises of it.
 use Prim.Native.Nat.{ℕ, _<_}
-use mathlib.Core.Path.{_≡_, refl, sym, ap, _∙_}
+use mathlib.Core.Path.{_≡_, sym, _∙_}
 use mathlib.Core.Bool.{true, false}
 use mathlib.Core.List.{List}
 use lib.ListN.{length}
 use Rattle.std.proofs.shelf.Tests.{cond-true, cond-false, and-from, and-left, and-right}
 use Rattle.model.specs.Limits.{pageBytes}
-use Rattle.model.specs.Store.{Stored, rowFits, restartFits}
+use Rattle.model.specs.Store.{rowFits, restartFits}
 use Rattle.model.specs.declared.answer.Answer.{Answer}
 use Rattle.stores.specs.Cards.{Medium}
 use Rattle.stores.specs.Promises.{Commits, Restarts}

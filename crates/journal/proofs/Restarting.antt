@@ -3,21 +3,19 @@ use Prim.Native.Nat.{ℕ, _+_, _-_, _<_, _≤_}
 use native.Mathlib.Omega.{arith}
 use mathlib.Core.Path.{_≡_, refl, sym, ap, subst, _∙_}
 use mathlib.Core.Logic.{_≢_, ⊎-elim}
-use mathlib.Core.Bool.{Bool, true, false, cond}
+use mathlib.Core.Bool.{true, false, cond}
 use mathlib.Core.List.{List, []}
 use lib.ListN.{length, getD, set}
 use lib.Dec.{leb, eqb}
 use Rattle.std.proofs.shelf.Lists.{getD-set-same, getD-set-other, set-getD, length-set}
 use Rattle.std.proofs.shelf.Tests.{cases-eq, cases-order, cases-bool, cond-true, cond-false, le-leb, eq-eqb, ne-eqb, both-ways}
-use Rattle.model.specs.Power.{Power, restartAnswer}
-use Rattle.model.specs.Store.{Stored}
+use Rattle.model.specs.Power.{restartAnswer}
 use Rattle.model.specs.declared.answer.Answer.{Answer}
 use Rattle.model.specs.declared.answer.Answer.the-variants.{Done, Cut}
 use Rattle.stores.specs.Cards.{Medium, cutAt, landed, turnedOn, writtenBoth, writeBothAnswer}
-use Rattle.stores.specs.Rows.{rowsBy}
 use Rattle.stores.proofs.Failing.{torn, tornAt, torn-zero}
 use Rattle.stores.proofs.Writing.{cut-first, cut-second, done-both, answer-first, answer-second, answer-done}
-use Rattle.journal.specs.Layout.{rowCount, pageCount, Sound, meaning, restartCutAt, owedBy, owedAfterMending, home, mark, markPage, rowIn, mended, mendAnswer}
+use Rattle.journal.specs.Layout.{rowCount, pageCount, Sound, meaning, restartCutAt, owedBy, owedAfterMending, home, mark, markPage, mended, mendAnswer}
 use Rattle.journal.proofs.Marking.{Holds, mark-is, marked, settled, rows-alike, sound-by}
 use Rattle.journal.proofs.Committing.{owed-marked}
 

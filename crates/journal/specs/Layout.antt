@@ -7,7 +7,6 @@ use lib.ListN.{length, getD, set, replicate}
 use lib.Dec.{leb, eqb}
 use Rattle.model.specs.Answers.{answerNumber}
 use Rattle.model.specs.Limits.{pageBytes}
-use Rattle.model.specs.Power.{Power}
 use Rattle.model.specs.Store.{Stored, rowFits, restartFits}
 use Rattle.model.specs.declared.answer.Answer.{Answer}
 use Rattle.model.specs.declared.answer.Answer.the-variants.{Done}

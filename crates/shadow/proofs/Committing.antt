@@ -3,17 +3,17 @@ use Prim.Native.Nat.{ℕ, _+_, _-_, _<_, _≤_}
 use native.Mathlib.Omega.{arith}
 use mathlib.Core.Path.{_≡_, refl, sym, ap, subst, _∙_}
 use mathlib.Core.Logic.{_≢_, ⊎-elim}
-use mathlib.Core.Bool.{Bool, true, false, cond}
+use mathlib.Core.Bool.{true, false, cond}
 use mathlib.Core.List.{List, []}
 use lib.ListN.{length, getD, set}
 use lib.Dec.{leb, eqb}
-use Rattle.std.proofs.shelf.Lists.{getD-set-other, set-getD, length-set}
+use Rattle.std.proofs.shelf.Lists.{getD-set-other, set-getD}
 use Rattle.std.proofs.shelf.Tests.{cases-order, cases-bool, cond-true, cond-false, le-leb, lt-leb, eq-eqb, ne-eqb, or-left, or-right, or-from, and-left, and-right, and-from}
 use Rattle.model.specs.Limits.{pageBytes}
-use Rattle.model.specs.Power.{Power, commitAnswer, renewed, spent}
+use Rattle.model.specs.Power.{commitAnswer, renewed, spent}
 use Rattle.model.specs.Store.{Stored}
 use Rattle.model.specs.declared.answer.Answer.{Answer}
-use Rattle.model.specs.declared.answer.Answer.the-variants.{Done, Cut}
+use Rattle.model.specs.declared.answer.Answer.the-variants.{Cut}
 use Rattle.stores.specs.Cards.{Medium, cutAt, landed, writeBothAnswer}
 use Rattle.stores.specs.Rows.{rowsBy}
 use Rattle.stores.specs.Promises.{Commits}
@@ -21,7 +21,7 @@ use Rattle.stores.proofs.Judging.{commits-on, row-fits}
 use Rattle.stores.proofs.Rows.{same-stored, length-rows}
 use Rattle.stores.proofs.Failing.{torn, tornAt, torn-zero}
 use Rattle.stores.proofs.Writing.{cut-first, cut-second, done-both, answer-first, answer-second, answer-done}
-use Rattle.shadow.specs.Layout.{rowCount, pageCount, Sound, meaning, commitCutAt, switching, Switches, otherPage, switched, rowIn}
+use Rattle.shadow.specs.Layout.{rowCount, Sound, meaning, commitCutAt, switching, Switches, otherPage, switched, rowIn}
 use Rattle.shadow.proofs.Switching.{slot-written, page-switched, slot-sound, switch-sound}
 
 abbrev pub meant : Medium → ℕ → List ℕ → Stored

@@ -1,17 +1,17 @@
 -- A card of zeros is a sound store of zero rows.
-use Prim.Native.Nat.{ℕ, _<_, _≤_, min}
+use Prim.Native.Nat.{ℕ, _<_}
 use native.Mathlib.Omega.{arith}
 use mathlib.Core.Path.{_≡_, refl, sym, ap, subst, _∙_}
 use mathlib.Core.Logic.{⊎-elim}
 use mathlib.Core.Bool.{false}
 use mathlib.Core.List.{List, []}
-use lib.ListN.{length, getD, replicate}
+use lib.ListN.{length, getD}
 use Rattle.std.proofs.shelf.Lists.{getD-replicate, getD-past, length-replicate}
 use Rattle.std.proofs.shelf.Tests.{cases-lt}
 use Rattle.model.specs.Limits.{pageBytes}
 use Rattle.stores.specs.Cards.{Medium, zeroPage, blankMedium}
 use Rattle.stores.proofs.Rows.{rows-all, same-stored}
-use Rattle.shadow.specs.Layout.{rowCount, pageCount, Sound, Formatted, meaning, rowIn, livePage, flag, slot}
+use Rattle.shadow.specs.Layout.{rowCount, pageCount, Sound, Formatted, meaning, rowIn, livePage, flag}
 
 module _ (node : ℕ) where
   abbrev blank : Medium

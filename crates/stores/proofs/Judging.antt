@@ -2,14 +2,14 @@
 use Prim.Native.Nat.{ℕ, _<_, _≤_}
 use native.Mathlib.Omega.{arith}
 use mathlib.Core.Path.{_≡_, refl, sym, ap, _∙_}
-use mathlib.Core.Bool.{Bool, true, false, cond, _&&_}
+use mathlib.Core.Bool.{Bool, true, false, cond}
 use mathlib.Core.List.{List, []}
 use lib.ListN.{length, getD, set}
 use lib.Dec.{ltb, leb}
 use Rattle.std.proofs.shelf.Tests.{cond-true, cond-false, and-from, and-left, and-right, lt-ltb, le-ltb, eq-eqb, ne-eqb, both-ways}
 use Rattle.model.specs.Answers.{refusal}
 use Rattle.model.specs.Limits.{pageBytes}
-use Rattle.model.specs.Power.{Power, commitAnswer, renewed, spent, restartAnswer, restarted}
+use Rattle.model.specs.Power.{commitAnswer, renewed, spent, restartAnswer, restarted}
 use Rattle.model.specs.Store.{Stored, rowFits, restartFits}
 use Rattle.model.specs.declared.answer.Answer.{Answer}
 use Rattle.model.specs.declared.answer.Answer.the-variants.{Done, OutOfRange, Off, Cut}

@@ -2,16 +2,14 @@
 use Prim.Native.Nat.{ℕ, _<_}
 use native.Mathlib.Nat.{zero-add}
 use native.Mathlib.Omega.{arith}
-use mathlib.Core.Path.{_≡_, sym, subst, _∙_, ap}
+use mathlib.Core.Path.{_≡_, sym, _∙_, ap}
 use mathlib.Core.Logic.{_≢_, ⊎-elim}
-use mathlib.Core.List.{List, [], map}
+use mathlib.Core.List.{List, []}
 use lib.ListN.{length, getD, set, replicate}
-use Rattle.std.specs.Iters.{counting}
 use Rattle.std.proofs.shelf.Counted.{length-map-counting, getD-map-counting}
 use Rattle.std.proofs.shelf.Lists.{ext-getD, length-set, getD-set-same, getD-set-other, length-replicate, getD-replicate}
 use Rattle.std.proofs.shelf.Tests.{cases-eq}
 use mathlib.Core.Bool.{Bool}
-use Rattle.model.specs.Power.{Power}
 use Rattle.model.specs.Store.{Stored}
 use Rattle.stores.specs.Rows.{rowsBy}
 

@@ -8,10 +8,9 @@ use lib.Dec.{ltb}
 use mathlib.Core.Logic.{⊎-elim}
 use native.Mathlib.Omega.{arith}
 use Rattle.std.proofs.shelf.Lists.{length-set}
-use Rattle.std.proofs.shelf.Tests.{cases-bool, cond-true, cond-false, and-from, and-left, and-right, lt-ltb, le-ltb}
+use Rattle.std.proofs.shelf.Tests.{cases-bool, cond-true, cond-false, and-from, and-right, lt-ltb, le-ltb}
 use Rattle.model.specs.Store.{judged}
-use Rattle.model.specs.declared.answer.Answer.{Answer}
-use Rattle.model.specs.declared.answer.Answer.the-variants.{Done, Off, OutOfRange, Cut}
+use Rattle.model.specs.declared.answer.Answer.the-variants.{Done, Cut}
 use Rattle.model.specs.declared.answer.CutPoint.{CutPoint}
 use Rattle.stores.proofs.Failing.{tornAt, failed-is}
 use Rattle.stores.specs.Cards.{Medium, cutAt, landed, written, writeAnswer, lasts, writtenBoth, writeBothAnswer}

@@ -1,8 +1,4 @@
 // What any store can do: read a row, change a byte, commit.
-ghost use mathlib.Core.Path.{_≡_};
-ghost use mathlib.Core.Bool.{true};
-ghost use lib.ListN.{length, set, getD};
-ghost use Prim.Native.Nat.{ℕ, _≤_};
 ghost use Rattle.stores.specs.Change.{Changes};
 use super::store::Store;
 use model::Answer;

@@ -3,7 +3,6 @@ use mathlib.Core.Path.{refl, sym, subst}
 use lib.Dec.{leb, ltb}
 use lib.ListN.{length}
 use Rattle.std.proofs.shelf.Tests.{eqb-true, and-right}
-use Rattle.model.specs.Store.{rowFits}
 use Rattle.stores.specs.Cards.{medium}
 use Rattle.stores.proofs.Judging.{commits-out, commits-off, no-row, no-refusal}
 use Rattle.stores.proofs.Rows.{length-rows}

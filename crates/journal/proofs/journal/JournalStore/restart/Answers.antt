@@ -1,14 +1,12 @@
 -- The card is turned on, and then mended.
 use Prim.Native.Nat.{_≤_}
-use native.Mathlib.Omega.{arith}
-use mathlib.Core.Path.{_≡_, refl, sym, ap, subst, _∙_}
+use mathlib.Core.Path.{_≡_, sym, ap, subst, _∙_}
 use mathlib.Core.Bool.{true}
 use lib.Dec.{leb}
 use lib.ListN.{length}
 use Rattle.std.proofs.shelf.Tests.{and-from}
 use Rattle.model.specs.Store.{restartFits}
 use Rattle.stores.specs.Cards.{Medium, medium, turnedOn}
-use Rattle.stores.specs.Tears.{tearNumber}
 use Rattle.stores.proofs.Judging.{no-refusal, tear-fits}
 use Rattle.journal.specs.Layout.{Sound, Mends, meaning, mark, restartCutAt}
 use Rattle.journal.proofs.Restarting.{Woke, woke}
