@@ -72,3 +72,13 @@ pub(crate) fn first_in<V: Ord + Copy>(slots: &[Slot<V>]) -> Option<(u16, V)>
         None => None,
     }
 }
+
+// The value of a stop.
+pub(crate) fn value_in<V: Copy>(slots: &[Slot<V>], stop: u16) -> Option<V>
+    ensures { λ r. ⌜ (Single (now (slots .entry)) → stop < stops → r ≡ held (now (slots .entry)) stop) ⌝ }
+{
+    match place_of(slots, stop) {
+        Some(at) => slots[at].value,
+        None => None,
+    }
+}

@@ -1,5 +1,6 @@
 // What a node does with the 32 bytes of a state, whatever the computation: take a record if it is admitted, fire a due
 // that the watermark has reached. A take and a fire happen here only when they may.
+ghost use mathlib.Core.Path.{_≡_};
 ghost use Rattle.computations.specs.Judging.{Considered, Attended};
 use super::admission::admit;
 use super::computation::Computation;
@@ -32,4 +33,12 @@ pub fn fire_due<C: Computation>(bytes: &[u8; 32], w: u32) -> Option<(C::State, O
         Some(due) if due <= w.min(4_000_000_000) => Some(C::fire(&state)),
         _ => None,
     }
+}
+
+// The second at which the state wants to fire, if it does.
+pub fn due_in<C: Computation>(bytes: &[u8; 32]) -> Option<u32>
+    ensures { λ r. ⌜ r ≡ operations .due (operations .load (now (bytes .entry))) ⌝ }
+{
+    let state = C::load(bytes);
+    C::due(&state)
 }

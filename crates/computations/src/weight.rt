@@ -25,3 +25,19 @@ pub trait Totalling: Computation {
     fn total(state: &Self::State) -> u32
         ensures { λ r. ⌜ (Self·Computation .sound (now (state .entry)) → r ≡ totals (now (state .entry))) ⌝ };
 }
+
+// What the state of 32 bytes holds.
+pub fn held_in<C: Conserving>(bytes: &[u8; 32]) -> u32
+    ensures { λ r. ⌜ r ≡ holds (C·Computation .operations .load (now (bytes .entry))) ⌝ }
+{
+    let state = C::load(bytes);
+    C::held(&state)
+}
+
+// The total so far of the state of 32 bytes.
+pub fn total_in<C: Totalling>(bytes: &[u8; 32]) -> u32
+    ensures { λ r. ⌜ r ≡ totals (C·Computation .operations .load (now (bytes .entry))) ⌝ }
+{
+    let state = C::load(bytes);
+    C::total(&state)
+}

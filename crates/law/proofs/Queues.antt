@@ -31,7 +31,7 @@ use Rattle.law.proofs.Judged.{considered-stop, considered-on}
 use Rattle.law.proofs.Lists.{mem-left, mem-last, mem-snoc, apart-snoc, kept-mem, mem-kept, kept-passes, apart-kept}
 use Rattle.law.proofs.Next.{row-at, row-off}
 
-stands-mem : (s : ℕ) (q : List ℕ) → stands s q ≡ true → Mem s q
+pub stands-mem : (s : ℕ) (q : List ℕ) → stands s q ≡ true → Mem s q
 stands-mem s [] e = absurd (false≢true e)
 stands-mem s (x ∷ q) e = at (eqb x s) refl e (stands-mem s q)
   where
@@ -39,7 +39,7 @@ stands-mem s (x ∷ q) e = at (eqb x s) refl e (stands-mem s q)
     at true t h below = inl (sym (eqb-true x s t))
     at false t h below = inr (below h)
 
-mem-stands : (s : ℕ) (q : List ℕ) → Mem s q → stands s q ≡ true
+pub mem-stands : (s : ℕ) (q : List ℕ) → Mem s q → stands s q ≡ true
 mem-stands s [] m = absurd m
 mem-stands s (x ∷ q) (inl e) = or-left (eqb x s) (stands s q) (eq-eqb x s (sym e))
 mem-stands s (x ∷ q) (inr m) = or-right (eqb x s) (stands s q) (mem-stands s q m)
@@ -119,10 +119,10 @@ module _ (s : ℕ) (h : s < stops) (new : Row) (rows : ℕ → Row) (queue : Lis
           (λ q m. mem-left q queue (s ∷ []) m) (λ q m. mem-snoc q s queue m)
 
 -- the stops with something pending, rising, are a right queue
-record Listed (rows : ℕ → Row) (n : ℕ) (queue : List ℕ) : Type 0 where
-  once : Apart queue
-  pending : (s : ℕ) → Mem s queue → (s < n) × (rows s .pending ≡ [] → ⊥)
-  all : (s : ℕ) → s < n → (rows s .pending ≡ [] → ⊥) → Mem s queue
+pub record Listed (rows : ℕ → Row) (n : ℕ) (queue : List ℕ) : Type 0 where
+  pub once : Apart queue
+  pub pending : (s : ℕ) → Mem s queue → (s < n) × (rows s .pending ≡ [] → ⊥)
+  pub all : (s : ℕ) → s < n → (rows s .pending ≡ [] → ⊥) → Mem s queue
 
 listed-more
     : (rows : ℕ → Row) (n : ℕ) (queue : List ℕ) (ps : List Production)
@@ -156,7 +156,7 @@ listed-more rows n queue (p ∷ ps) e l = record {
     new : (s : ℕ) → s ≡ n → s < suc n
     new s same = omega arith
 
-pending-listed : (rows : ℕ → Row) (n : ℕ) → Listed rows n (pendingBelow rows n)
+pub pending-listed : (rows : ℕ → Row) (n : ℕ) → Listed rows n (pendingBelow rows n)
 unfolding pendingBelow
 pending-listed rows zero = record { once = tt; pending = λ s m. absurd m; all = λ s k. absurd (none s k) }
   where
@@ -185,10 +185,10 @@ turned-apart (s ∷ queue) a = apart-snoc s queue (a .1) (a .0)
 abbrev pub Held : Node → Type 0
 Held n = n .power .on ≡ true → Queued n
 
-right-queued : (n : Node) → Right (n .row) (n .queue) → Queued n
+pub right-queued : (n : Node) → Right (n .row) (n .queue) → Queued n
 right-queued n r = record { once = r .once; pending = r .pending; all = r .all }
 
-queued-right : (n : Node) → Queued n → Right (n .row) (n .queue)
+pub queued-right : (n : Node) → Queued n → Right (n .row) (n .queue)
 queued-right n q = record { once = q .once; pending = q .pending; all = q .all }
 
 pub turned-held : (n : Node) → Held n → Held (turnedNode n)
@@ -202,7 +202,7 @@ turned-held n held on =
 
 module _ (kit : Kit) (keeps : Keeps kit) (free : Free) (n : Node) (held : Held n) where
   -- a commit that leaves the node on has written
-  commit-held : (s : ℕ) (new : Row) → s < stops → n .power .on ≡ true → Held (commitRow kit free s new n .1)
+  pub commit-held : (s : ℕ) (new : Row) → s < stops → n .power .on ≡ true → Held (commitRow kit free s new n .1)
   commit-held s new h on done =
       let wrote : renewed (kit .turn) (n .power) ≡ true =
       or-left

@@ -1,6 +1,6 @@
 mod EntryLoops
 mod Encoding
 mod Places
-mod RowBytes
+pub mod RowBytes
 mod Keeping
-mod WatermarkBytes
+pub mod WatermarkBytes

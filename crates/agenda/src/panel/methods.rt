@@ -1,9 +1,10 @@
 // The panel, by what it holds for each stop.
 ghost use mathlib.Core.Path.{_≡_};
-ghost use Prim.Native.Nat.{ℕ};
+ghost use Prim.Native.Nat.{ℕ, _<_};
 ghost use Rattle.std.specs.Options.{mapped};
 ghost use Rattle.std.specs.declared.option.Option.the-variants.{None};
 ghost use Rattle.agenda.specs.Meaning.{shownAt, greatest};
+ghost use Rattle.model.specs.Limits.{stops};
 ghost use Rattle.agenda.specs.Slots.{changed};
 use super::Panel;
 use crate::offer::Offer;
@@ -14,6 +15,7 @@ use crate::offer::OfferPartialOrd;
 use crate::slots::empty;
 use crate::slots::first_in;
 use crate::slots::set_in;
+use crate::slots::value_in;
 use model::Production;
 
 fn offered(shown: Option<Production>) -> Option<Offer>
@@ -46,6 +48,16 @@ impl Panel {
     {
         match first_in(&self.slots) {
             Some((stop, offer)) => Some((stop, offer.production)),
+            None => None,
+        }
+    }
+
+    // What a stop shows.
+    pub fn at(&self, stop: u16) -> Option<Production>
+        ensures { λ r. ⌜ (stop < stops → r ≡ shownAt (now (self .entry)) stop) ⌝ }
+    {
+        match value_in(&self.slots, stop) {
+            Some(offer) => Some(offer.production),
             None => None,
         }
     }
