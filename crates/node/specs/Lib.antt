@@ -1,0 +1,4 @@
+pub mod Shows
+pub mod Promises
+pub mod Remaking
+pub mod Agreeing
