@@ -17,7 +17,10 @@ mod tests {
     #[test]
     fn a_number_too_large_on_the_third_line(rt: LibcRuntime) -> Result<(), Fail> {
         let words = said(rt.alloc(), "send\n\nfire 256\njump\n")?;
-        check_eq(words.as_str(), "line 3: 256: expected a number up to 255 (node)")
+        check_eq(
+            words.as_str(),
+            "line 3: 256: expected a number up to 255 (node)",
+        )
     }
 
     #[test]
@@ -29,7 +32,10 @@ mod tests {
     #[test]
     fn a_line_that_ends_too_soon(rt: LibcRuntime) -> Result<(), Fail> {
         let words = said(rt.alloc(), "restart 0 left")?;
-        check_eq(words.as_str(), "line 1: the end of the line: expected a number up to 4294967295 (left)")
+        check_eq(
+            words.as_str(),
+            "line 1: the end of the line: expected a number up to 4294967295 (left)",
+        )
     }
 
     #[test]
