@@ -9,7 +9,10 @@ mod tests {
 
     fn said(heap: Global, text: &str) -> Result<String, Fail> {
         match assemble(heap, text.as_bytes()) {
-            Ok(_) => Err(Fail::new("a script was made")),
+            Ok(script) => {
+                drop(script);
+                Err(Fail::new("a script was made"))
+            }
             Err(failure) => Ok(format!(heap, "{failure}")?),
         }
     }
