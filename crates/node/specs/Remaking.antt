@@ -2,7 +2,7 @@
 use Prim.Native.Nat.{ℕ, _+_, _*_, _<_, _≤_}
 use mathlib.Core.Path.{_≡_}
 use mathlib.Core.Bool.{Bool, true, _&&_}
-use mathlib.Core.List.{List}
+use mathlib.Core.List.{List, []}
 use lib.Dec.{ltb}
 use Rattle.std.specs.declared.result.Result.{Result}
 use Rattle.std.specs.declared.result.Result.the-variants.{Ok}
@@ -12,6 +12,7 @@ use Rattle.model.specs.OnBytes.{onBytes}
 use Rattle.model.specs.declared.answer.Answer.{Answer}
 use Rattle.model.specs.declared.record.Name.{Name}
 use Rattle.stores.specs.declared.store.Store.{Ghosts as Stores}
+use Rattle.names.specs.Changes.{nothing}
 use Rattle.names.specs.declared.set.NameSet.{Ghosts as Sets}
 use Rattle.computations.specs.declared.computation.Computation.{Ghosts as Computations}
 use Rattle.law.specs.Node.{Node as LawNode, Free}
@@ -19,6 +20,7 @@ use Rattle.law.specs.Rows.{seen}
 use Rattle.model.specs.Row.{oldest}
 use Rattle.law.specs.Stops.{pendingBelow, pendingStops}
 use Rattle.ledger.specs.Kept.{Kept}
+use Rattle.queue.specs.Lines.{lined}
 use Rattle.node.specs.Promises.{Told}
 use Rattle.node.specs.Shows.{Beside, besideOf, freeOf, Shows}
 use Rattle.node.specs.declared.node.Node.{Node}
@@ -41,6 +43,13 @@ module _ {S N C T : Type 0} (store : Stores S) (set : Sets N) (computation : Com
     pub store-fit : store .fit (v .store)
     pub names-fit : set .fit (v .names)
     pub follows : FollowsBelow (onBytes (computation .operations)) i (besideOf store set computation v) n
+
+  -- the store stays, and nothing is kept beside its rows
+  pub record Emptied (v v′ : Node S N C) : Type 0 where
+    pub store-is : v′ .store ≡ v .store
+    pub names-fit : set .fit (v′ .names)
+    pub names : set .meaning (v′ .names) ≡ nothing
+    pub queue : lined (v′ .queue) ≡ []
 
   -- a step that makes it follow the stops below j as well; the store means the same after it
   pub record Grows (v v′ : Node S N C) (i j : ℕ) (r : Bool) : Type 0 where

@@ -3,7 +3,7 @@ ghost use mathlib.Core.Path.{_≡_};
 ghost use mathlib.Core.Bool.{Bool, true, false};
 ghost use Rattle.law.specs.Node.{Node as LawNode, restart as restartOf};
 ghost use Rattle.ledger.specs.Kept.{Kept};
-ghost use Rattle.node.specs.Remaking.{Wakes, Remakes, RemakesStops, RemakesStop};
+ghost use Rattle.node.specs.Remaking.{Emptied, Wakes, Remakes, RemakesStops, RemakesStop};
 ghost use Rattle.node.specs.Shows.{Shows};
 use super::Damaged;
 use super::Node;
@@ -58,10 +58,7 @@ impl<S: Store, N: NameSet, C: Computation> Node<S, N, C> {
     fn remake(&mut self) -> bool
         ensures { λ r. ⌜ Remakes S·Store N·NameSet C·Computation (now (self .entry)) (now (self .exit)) r ⌝ }
     {
-        self.names.clear();
-        self.timers = Timers::new();
-        self.panel = Panel::new();
-        self.queue.clear();
+        self.empty();
         match read_watermark(&mut self.store) {
             Some(watermark) => {
                 self.watermark = watermark;
@@ -69,6 +66,16 @@ impl<S: Store, N: NameSet, C: Computation> Node<S, N, C> {
             }
             None => false,
         }
+    }
+
+    // Nothing is kept beside the rows any more.
+    fn empty(&mut self)
+        ensures { λ _. ⌜ Emptied S·Store N·NameSet C·Computation (now (self .entry)) (now (self .exit)) ⌝ }
+    {
+        self.names.clear();
+        self.timers = Timers::new();
+        self.panel = Panel::new();
+        self.queue.clear();
     }
 
     fn remake_stops(&mut self) -> bool

@@ -13,11 +13,14 @@ use Rattle.node.proofs.Remaking.{follows-none, follows-all}
 use Rattle.node.proofs.node.Node.remake.Needs as need
 
 pub returns-in-Some : need.returns-in-Some
-returns-in-Some g c = λ fit n kept on queue-is.
+returns-in-Some g c = λ fit₀ n kept₀ on queue-is.
     let store = g .S·Store in
     let set = g .N·NameSet in
     let computation = g .C·Computation in
     let ops = onBytes (computation .operations) in
+    let emptied = c .empty .ensures in
+    let fit = subst (λ s. store .fit s) (sym (emptied .store-is)) fit₀ in
+    let kept = subst (λ s. Kept (store .model s) n) (sym (emptied .store-is)) kept₀ in
     let read = c .in-Some .ensures tt .reads fit in
     let w-is : c .in-Some .watermark ≡ n .w = (let e = read .watermark n kept on in cc) in
     let first : ShowsBelow store set computation 0 _ n =
@@ -25,8 +28,8 @@ returns-in-Some g c = λ fit n kept on queue-is.
       kept = subst (λ (x : Stored). Kept x n) (sym (read .means)) kept;
       on = on;
       store-fit = read .fits;
-      names-fit = c .clear .ensures .fit;
-      follows = follows-none ops _ n (c .clear .ensures .means) (c .clear-2 .ensures) w-is;
+      names-fit = emptied .names-fit;
+      follows = follows-none ops _ n (emptied .names) (emptied .queue) w-is;
     } in
     let last = c .remake-stops .ensures .shows n first in
     record {
@@ -37,5 +40,5 @@ returns-in-Some g c = λ fit n kept on queue-is.
         names-fit = last .names-fit;
         follows = λ _. follows-all ops _ n queue-is (last .follows);
       };
-      means = c .remake-stops .ensures .means (read .fits) ∙ read .means;
+      means = c .remake-stops .ensures .means (read .fits) ∙ read .means ∙ ap (store .model) (emptied .store-is);
     }
