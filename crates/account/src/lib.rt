@@ -1,4 +1,6 @@
 // The account of a script, as lines of text: what each event answered, and where the requests for a stop are.
+#![tactic(auto)]
+
 ghost use Rattle.std.specs.Prelude.{◌≡◌, IfOk, string_bytes};
 ghost use Rattle.account.specs.Account.{event_line, events_from, plain_line, stop_line};
 

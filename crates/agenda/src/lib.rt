@@ -2,6 +2,8 @@
 //
 // Each holds, for every stop, a value or none, in a heap of as many slots as there are stops. So nothing is allocated,
 // and a change moves one slot to its new place.
+#![tactic(auto)]
+
 mod offer;
 mod panel;
 mod slot;

@@ -1,5 +1,7 @@
 // Turns the lines of text on standard input into frames on standard output. If a line is wrong, it is named on standard
 // error and nothing is written.
+#![tactic(auto)]
+
 use assembly::assemble;
 use std::io;
 use std::io::{Error, ErrorKind, Read, Write};

@@ -3,6 +3,8 @@
 //
 // `computation` is the trait and `weight` two laws that a count over a run rests on; `admission` judges a record, and
 // `judging` takes and fires, for any computation; `bytes` has the laws on the 32 bytes of a state.
+#![tactic(auto)]
+
 mod admission;
 mod bytes;
 mod computation;

@@ -3,6 +3,8 @@
 //
 // `state` is what it keeps of a stop and `layout` its bytes, `minutes` finds its way among the open minutes, `counter` is
 // the computation, and `law` says that no minute loses or gains a request.
+#![tactic(auto)]
+
 mod counter;
 mod law;
 mod layout;

@@ -2,6 +2,8 @@
 // what was predicted. It also keeps the total of all it took.
 //
 // `state` is what it keeps of a stop and `layout` its bytes, `prediction` is the arithmetic, `detector` the computation.
+#![tactic(auto)]
+
 mod detector;
 mod layout;
 mod prediction;

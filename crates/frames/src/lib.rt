@@ -4,6 +4,8 @@
 // body as it stands in the script; decoding it into a call is a step of its own, and so is writing a call as a frame.
 // Reading what was written gives the call back, wherever the frame stands and whatever stands around it, and writing
 // what was read gives the bytes back.
+#![tactic(auto)]
+
 mod decode;
 mod fields;
 mod frame;

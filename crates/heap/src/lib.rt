@@ -2,6 +2,8 @@
 //
 // Each function rearranges the slice that it is lent and keeps its elements. What it promises of the order holds under
 // every total order that the elements' `cmp` follows.
+#![tactic(auto)]
+
 mod operations;
 mod sifts;
 

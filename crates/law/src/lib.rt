@@ -4,6 +4,8 @@
 // firing and clearing make of a stop's row), `Stops` (what is asked of all stops together), `Node` and `Pair` (the calls, as
 // functions that give the answer and what is left), `Run` (runs of calls, and what was taken, made and landed in them) and
 // `Law`. Each function below does nothing: its contract is a theorem, and the crate is refused without the proof.
+#![tactic(auto)]
+
 ghost use Rattle.std.specs.Prelude.{◌≡◌, ℕ, ◌<◌, ◌≤◌, ◌↔◌, List, Some, None};
 ghost use Rattle.model.specs.Computation.{Computation, Conserves, Totals};
 ghost use Rattle.model.specs.Row.{Row};

@@ -1,4 +1,6 @@
 // Examples of rows, heaps, timers and the panel, worked out by hand or drawn at random.
+#![tactic(auto)]
+
 #[cfg(test)]
 mod heaps;
 #[cfg(test)]

@@ -1,5 +1,7 @@
 // The rows of a node as types, over any store. Reading and writing go by the encoding of a row; all reasoning about
 // bytes ends here.
+#![tactic(auto)]
+
 mod stop_rows;
 mod watermark;
 

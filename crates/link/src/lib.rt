@@ -1,4 +1,6 @@
 // The radio link: the messages on their way, oldest first.
+#![tactic(auto)]
+
 ghost use Rattle.std.specs.Prelude.{◌≡◌, [], ◌∷◌, ◌++◌, length, if◌then◌else◌, nat_le, nat_lt};
 ghost use Rattle.std.specs.List.{remove, slice_get};
 ghost use Rattle.model.specs.Limits.{most_messages};

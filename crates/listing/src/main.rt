@@ -1,4 +1,6 @@
 // Lists the script on standard input: each frame's number, offset and line, up to the first fault.
+#![tactic(auto)]
+
 use lines::list_script;
 use std::io;
 use std::io::Read;

@@ -2,6 +2,8 @@
 //
 // Each type here is plain data. The folder specs/ beside it holds the definitions that more than one crate speaks of:
 // the number of each answer, what a cut leaves in a store, what a computation owes, the order of admission, a row.
+#![tactic(auto)]
+
 mod answer;
 mod call;
 mod record;

@@ -2,6 +2,8 @@
 //
 // Run by hand with the word `times` it prints nanoseconds. Without it, it prints only what the sets answered, which is
 // the same on every machine.
+#![tactic(auto)]
+
 use bloom::Bloom;
 use hashed_names::HashedNames;
 use model::Name;

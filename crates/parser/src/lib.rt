@@ -1,4 +1,6 @@
 // Reads a line of text as a call. What was printed of a call is read back as that call.
+#![tactic(auto)]
+
 mod field;
 mod numeral;
 mod parse;

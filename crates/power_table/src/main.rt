@@ -2,6 +2,8 @@
 //
 // A cell says what the call answered, for a cut with node, row and page, then whether the store is on, what it owes, and
 // whether the row is old or new once the store is up again.
+#![tactic(auto)]
+
 mod trial;
 
 use anyhow::anyhow;

@@ -1,4 +1,6 @@
 // The stops with something pending, in the order in which they are sent.
+#![tactic(auto)]
+
 ghost use Rattle.std.specs.Prelude.{◌≡◌, []};
 ghost use Rattle.law.specs.Node.{stands};
 ghost use Rattle.law.specs.Pair.{turned};

@@ -1,5 +1,7 @@
 // Tests of what is said of a line that is wrong. The line's number, the word and what was wanted are in the contract of
 // `assemble`; the wording is only tested, here.
+#![tactic(auto)]
+
 #[cfg(test)]
 mod tests {
     use assembly::assemble;

@@ -2,6 +2,8 @@
 //
 // `encode` gives exactly the defined bytes, and `decode` gives a row back exactly if it has these bytes, so that whoever
 // reads and writes rows speaks of what they say and never of bytes. The steps by which a row changes are equations.
+#![tactic(auto)]
+
 mod bytes;
 mod entries;
 mod stop_row;

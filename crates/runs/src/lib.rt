@@ -1,4 +1,6 @@
 // Runs that are played to the end: the law at work with the counter and the detector, and what goes wrong by wrong rules.
+#![tactic(auto)]
+
 ghost use Rattle.std.specs.Prelude.{◌≡◌, map};
 ghost use Rattle.model.specs.Answers.{answer_number, outcome_answer};
 ghost use Rattle.law.specs.Pair.{happens};

@@ -1,5 +1,7 @@
 // Prints the account of the script on standard input: the answer of each event, the fault that ended them, and where the
 // requests for each stop are after both boxes were restarted.
+#![tactic(auto)]
+
 use anyhow::anyhow;
 use boxes::account_of;
 use std::io::Read;

@@ -1,4 +1,6 @@
 // A name set that keeps its names in order, and finds one by halving.
+#![tactic(auto)]
+
 mod order;
 mod table;
 

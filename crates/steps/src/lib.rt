@@ -1,4 +1,6 @@
 // What taking a record, firing a due and clearing a production make of a stop's row, for any computation.
+#![tactic(auto)]
+
 mod emits;
 mod fires;
 mod sums;

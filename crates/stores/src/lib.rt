@@ -2,6 +2,8 @@
 //
 // `card` is the medium, pages and the power that writes them, and `tear` what a failing write leaves. `store` says what
 // a store is: rows of 512 bytes and power, whatever the card under it goes through. `change` uses any store.
+#![tactic(auto)]
+
 mod card;
 mod change;
 mod store;
