@@ -3,7 +3,7 @@ use Rattle.std.proofs.Common.{◌≡◌, ℕ, List, [], ◌++◌, IfOk, IfErr, O
 use Rattle.stores.specs.Cards.{medium}
 use Rattle.journal.specs.Layout.{meaning}
 use Rattle.journal.specs.declared.journal.Journal.{Journal}
-use Rattle.shadow.specs.Layout.{meaning as shadowMeaning}
+use Rattle.shadow.specs.Layout.{meaning as shadow_meaning}
 use Rattle.shadow.specs.declared.shadow.Shadow.{Shadow}
 use Rattle.cache.specs.declared.cached.Cached.{Cached}
 use Rattle.ledger.specs.Kept.{Blank}
@@ -25,5 +25,5 @@ only_memory (Err Damaged) damage never = absurd (never (damage refl))
 pub journal_blank : (s : Cached Journal) → JournalReady s → Blank (meaning (medium s.below.card))
 journal_blank s ready = record { rows = ap (λ m. m.rows) ready.formatted.means; off = ap (λ m. m.power.on) ready.formatted.means }
 
-pub shadow_blank : (s : Shadow) → ShadowReady s → Blank (shadowMeaning (medium s.card))
+pub shadow_blank : (s : Shadow) → ShadowReady s → Blank (shadow_meaning (medium s.card))
 shadow_blank s ready = record { rows = ap (λ m. m.rows) ready.formatted.means; off = ap (λ m. m.power.on) ready.formatted.means }

@@ -3,7 +3,7 @@
 ghost use Rattle.std.specs.Prelude.{◌≡◌, [], ◌∷◌, length, IfOk, Some, slice_index};
 ghost use Rattle.frames.specs.Calls.{body_of, call_of, decoded, frame_of};
 ghost use Rattle.frames.specs.Frames.{frame_body, frame_kind, framed};
-ghost use Rattle.frames.specs.declared.kind.Kind.TheVariants.{HandIn as ofHandIn, Advance as ofAdvance, Restart as ofRestart, MarkDone as ofMarkDone};
+ghost use Rattle.frames.specs.declared.kind.Kind.TheVariants.{HandIn as of_hand_in, Advance as of_advance, Restart as of_restart, MarkDone as of_mark_done};
 
 use super::fields::{u16_at, u32_at};
 use super::frame::Frame;
@@ -11,7 +11,7 @@ use model::{Call, Fault, Junk, Name, Record};
 
 fn hand_in<'a>(body: &'a [u8]) -> Call<'a>
     requires { length body.now ≡ 14 }
-    ensures call { result ≡ call_of ofHandIn body.now }
+    ensures call { result ≡ call_of of_hand_in body.now }
     ensures back { body_of result ≡ Some body.now }
 {
     let name = Name {
@@ -28,7 +28,7 @@ fn hand_in<'a>(body: &'a [u8]) -> Call<'a>
 
 fn advance<'a>(body: &'a [u8]) -> Call<'a>
     requires { length body.now ≡ 4 }
-    ensures call { result ≡ call_of ofAdvance body.now }
+    ensures call { result ≡ call_of of_advance body.now }
     ensures back { body_of result ≡ Some body.now }
 {
     Call::Advance {
@@ -38,7 +38,7 @@ fn advance<'a>(body: &'a [u8]) -> Call<'a>
 
 fn restart<'a>(body: &'a [u8]) -> Call<'a>
     requires { length body.now ≡ 7 }
-    ensures call { result ≡ call_of ofRestart body.now }
+    ensures call { result ≡ call_of of_restart body.now }
     ensures back { body_of result ≡ Some body.now }
 {
     Call::Restart {
@@ -51,7 +51,7 @@ fn restart<'a>(body: &'a [u8]) -> Call<'a>
 
 fn mark_done<'a>(body: &'a [u8]) -> Call<'a>
     requires { length body.now ≡ 6 }
-    ensures call { result ≡ call_of ofMarkDone body.now }
+    ensures call { result ≡ call_of of_mark_done body.now }
     ensures back { body_of result ≡ Some body.now }
 {
     Call::MarkDone {

@@ -19,7 +19,7 @@ use Rattle.std.specs.Option.{option_map}
 use Rattle.rows.specs.Layout.{RowFits}
 use Rattle.rows.specs.Meaning.{row_of}
 use Rattle.rows.specs.declared.stop_row.StopRow.{StopRow}
-use Rattle.model.specs.Row.{oldest as oldestIn}
+use Rattle.model.specs.Row.{oldest as oldest_in}
 use Rattle.law.specs.Node.{Node as LawNode, Kit, Free, requeued, commit_row, commit_watermark}
 use Rattle.model.specs.Row.{oldest}
 use Rattle.ledger.specs.Kept.{Kept}
@@ -41,7 +41,7 @@ pub rewrapped : {R : Type 0} {Shown : LawNode → Type 0} (wrap : Answer → R) 
 rewrapped wrap t = record { answer = ap wrap t.answer; shows = t.shows }
 
 -- the oldest is the same in the words of a row and of the law
-pub oldest_is : (ps : List Production) → oldestIn ps ≡ oldest ps
+pub oldest_is : (ps : List Production) → oldest_in ps ≡ oldest ps
 oldest_is [] = refl
 oldest_is (p ∷ ps) = refl
 
@@ -80,7 +80,7 @@ module _ {S N C T : Type 0} (store : Stores S) (set : Sets N) (computation : Com
         → RowCommitted (store.fit v'.store) (kit_of store set computation) free (store.model v.store) (store.model v'.store) s new Done
         → Renamed (set.fit v'.names) (set.meaning v.names) (set.meaning v'.names) s floor come
         → due_at v'.timers ≡ changed s ((on_bytes computation.operations).due new.state) (due_at v.timers)
-        → shown_at v'.panel ≡ changed s (oldestIn new.pending) (shown_at v.panel)
+        → shown_at v'.panel ≡ changed s (oldest_in new.pending) (shown_at v.panel)
         → (Line (lined v.queue) → s < stops → lined v'.queue ≡ requeued s new.pending (lined v.queue))
         → v'.watermark ≡ v.watermark
         → Told (Shows store set computation v') (λ a. a) Done (commit_row (kit_of store set computation) free s new n)

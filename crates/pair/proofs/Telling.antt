@@ -17,7 +17,7 @@ use Rattle.law.specs.Pair.{Pair as LawPair, at_collector, at_spotter, arrives, r
 use Rattle.link.specs.declared.Link.{Link}
 use Rattle.link.specs.Carried.{carried}
 use Rattle.node.specs.Promises.{Told as NodeTold}
-use Rattle.node.specs.Shows.{kit_of, free_of as nodeFree, Shows as NodeShows}
+use Rattle.node.specs.Shows.{kit_of, free_of as node_free, Shows as NodeShows}
 use Rattle.node.specs.declared.node.Damaged.{Damaged}
 use Rattle.node.specs.declared.node.Node.{Node}
 use Rattle.pair.specs.Plain.{plainly}
@@ -97,7 +97,7 @@ module _ {S N C X T O D Y : Type 0} (store : Stores S) (set : Sets N) (computati
     pub told_fire_0
         : (n : Node S N C)
         → k ≡ 0
-        → NodeTold (NodeShows store set computation n) (λ b. Ok b) a (fire (kit_of store set computation) (nodeFree store set computation 0 v.collector n) p.collector)
+        → NodeTold (NodeShows store set computation n) (λ b. Ok b) a (fire (kit_of store set computation) (node_free store set computation 0 v.collector n) p.collector)
         → Told (Shows store set computation store' set' computation' (record { collector = n; spotter = v.spotter; link = v.link })) r
         (happens (kits_of store set computation store' set' computation') (free_of store set computation store' set' computation' v (record { collector = n; spotter = v.spotter; link = v.link }) (Fire k)) (Fire k) p)
     told_fire_0 n e t =
@@ -108,7 +108,7 @@ module _ {S N C X T O D Y : Type 0} (store : Stores S) (set : Sets N) (computati
     pub told_fire_1
         : (m : Node T O D)
         → k ≡ 1
-        → NodeTold (NodeShows store' set' computation' m) (λ b. Ok b) a (fire (kit_of store' set' computation') (nodeFree store' set' computation' 0 v.spotter m) p.spotter)
+        → NodeTold (NodeShows store' set' computation' m) (λ b. Ok b) a (fire (kit_of store' set' computation') (node_free store' set' computation' 0 v.spotter m) p.spotter)
         → Told (Shows store set computation store' set' computation' (record { collector = v.collector; spotter = m; link = v.link })) r
         (happens (kits_of store set computation store' set' computation') (free_of store set computation store' set' computation' v (record { collector = v.collector; spotter = m; link = v.link }) (Fire k)) (Fire k) p)
     told_fire_1 m e t =

@@ -1,6 +1,6 @@
 // Reads a line as a call: a word that names the call, and then its numbers.
 ghost use Rattle.std.specs.Prelude.{◌≡◌, Some, Ok};
-ghost use Rattle.frames.specs.declared.kind.Kind.TheVariants as ofKind;
+ghost use Rattle.frames.specs.declared.kind.Kind.TheVariants as of_kind;
 ghost use Rattle.lines.specs.Lines.{line_of};
 ghost use Rattle.parser.specs.Lines.{Sayable};
 ghost use Rattle.parser.specs.Left.{left};
@@ -43,7 +43,7 @@ fn kind_named(word: &[u8]) -> Option<Kind>
 }
 
 fn hand_in<'a>(words: &mut Words<'a>) -> Result<Call<'a>, Misread<'a>>
-    ensures { took result (left words.new) ≡ call_from ofKind.HandIn (left words.old) }
+    ensures { took result (left words.new) ≡ call_from of_kind.HandIn (left words.old) }
 {
     let sender = words.named(Field::Sender)? as u16;
     let stop = words.named(Field::Stop)? as u16;
@@ -61,42 +61,42 @@ fn hand_in<'a>(words: &mut Words<'a>) -> Result<Call<'a>, Misread<'a>>
 }
 
 fn advance<'a>(words: &mut Words<'a>) -> Result<Call<'a>, Misread<'a>>
-    ensures { took result (left words.new) ≡ call_from ofKind.Advance (left words.old) }
+    ensures { took result (left words.new) ≡ call_from of_kind.Advance (left words.old) }
 {
     let time = words.value(Field::Time)?;
     Ok(Call::Advance { time })
 }
 
 fn fire<'a>(words: &mut Words<'a>) -> Result<Call<'a>, Misread<'a>>
-    ensures { took result (left words.new) ≡ call_from ofKind.Fire (left words.old) }
+    ensures { took result (left words.new) ≡ call_from of_kind.Fire (left words.old) }
 {
     let node = words.value(Field::Node)? as u8;
     Ok(Call::Fire { node })
 }
 
 fn lose<'a>(words: &mut Words<'a>) -> Result<Call<'a>, Misread<'a>>
-    ensures { took result (left words.new) ≡ call_from ofKind.Lose (left words.old) }
+    ensures { took result (left words.new) ≡ call_from of_kind.Lose (left words.old) }
 {
     let place = words.value(Field::Place)? as u8;
     Ok(Call::Lose { place })
 }
 
 fn repeat<'a>(words: &mut Words<'a>) -> Result<Call<'a>, Misread<'a>>
-    ensures { took result (left words.new) ≡ call_from ofKind.Repeat (left words.old) }
+    ensures { took result (left words.new) ≡ call_from of_kind.Repeat (left words.old) }
 {
     let place = words.value(Field::Place)? as u8;
     Ok(Call::Repeat { place })
 }
 
 fn deliver<'a>(words: &mut Words<'a>) -> Result<Call<'a>, Misread<'a>>
-    ensures { took result (left words.new) ≡ call_from ofKind.Deliver (left words.old) }
+    ensures { took result (left words.new) ≡ call_from of_kind.Deliver (left words.old) }
 {
     let place = words.value(Field::Place)? as u8;
     Ok(Call::Deliver { place })
 }
 
 fn restart<'a>(words: &mut Words<'a>) -> Result<Call<'a>, Misread<'a>>
-    ensures { took result (left words.new) ≡ call_from ofKind.Restart (left words.old) }
+    ensures { took result (left words.new) ≡ call_from of_kind.Restart (left words.old) }
 {
     let node = words.value(Field::Node)? as u8;
     let left = words.named(Field::Left)?;
@@ -112,7 +112,7 @@ fn restart<'a>(words: &mut Words<'a>) -> Result<Call<'a>, Misread<'a>>
 }
 
 fn mark_done<'a>(words: &mut Words<'a>) -> Result<Call<'a>, Misread<'a>>
-    ensures { took result (left words.new) ≡ call_from ofKind.MarkDone (left words.old) }
+    ensures { took result (left words.new) ≡ call_from of_kind.MarkDone (left words.old) }
 {
     let stop = words.named(Field::Stop)? as u16;
     let serial = words.named(Field::Serial)?;

@@ -1,7 +1,7 @@
 // A record is taken into a row.
 ghost use Rattle.std.specs.Prelude.{◌≡◌, MatchResult};
 ghost use Rattle.model.specs.OnBytes.{on_bytes};
-ghost use Rattle.law.specs.Rows.{seen as seenIn};
+ghost use Rattle.law.specs.Rows.{seen as seen_in};
 ghost use Rattle.rows.specs.Meaning.{row_of};
 ghost use Rattle.steps.specs.Steps.{Took, Refused};
 
@@ -19,7 +19,7 @@ pub fn take_record<C: Computation>(
     seen: bool,
     given: &Record,
 ) -> Result<u32, Answer>
-    ensures { seen ≡ seenIn given.now.name (row_of row.old).names → MatchResult result (Took (on_bytes operations) on w given.now (row_of row.old) (row_of row.new)) (Refused (on_bytes operations) on w given.now (row_of row.old)) }
+    ensures { seen ≡ seen_in given.now.name (row_of row.old).names → MatchResult result (Took (on_bytes operations) on w given.now (row_of row.old) (row_of row.new)) (Refused (on_bytes operations) on w given.now (row_of row.old)) }
 {
     let (state, emission) = match consider::<C>(row.state(), on, w, seen, given) {
         Ok(taken) => taken,

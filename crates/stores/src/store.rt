@@ -23,9 +23,9 @@ pub trait Store {
     ghost bound: { ℕ };
 
     // Where a commit of a row is cut, and a restart for so many writes.
-    ghost commitCut: { Self → ℕ → CutPoint };
+    ghost commit_cut: { Self → ℕ → CutPoint };
 
-    ghost restartCut: { Self → ℕ → CutPoint };
+    ghost restart_cut: { Self → ℕ → CutPoint };
 
     // The node whose card it is.
     ghost home: { Self → ℕ };

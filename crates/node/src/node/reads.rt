@@ -5,8 +5,8 @@ ghost use Rattle.model.specs.OnBytes.{on_bytes};
 ghost use Rattle.law.specs.Lists.{total};
 ghost use Rattle.law.specs.Node.{Node as LawNode};
 ghost use Rattle.law.specs.Pair.{turned_node};
-ghost use Rattle.model.specs.Row.{oldest as oldestOf};
-ghost use Rattle.law.specs.Stops.{greatest as greatestOf, lowest};
+ghost use Rattle.model.specs.Row.{oldest as oldest_of};
+ghost use Rattle.law.specs.Stops.{greatest as greatest_of, lowest};
 ghost use Rattle.queue.specs.Lines.{head_of};
 ghost use Rattle.node.specs.Promises.{Finds};
 ghost use Rattle.node.specs.Shows.{Shows};
@@ -35,14 +35,14 @@ impl<S: Store, N: NameSet, C: Computation> Node<S, N, C> {
 
     // A stop's oldest pending production.
     pub fn oldest(&self, stop: u16) -> Option<Production>
-        ensures { (n : LawNode) → Shows S.Store N.NameSet C.Computation self.now n → n.power.on ≡ true → stop < stops → result ≡ oldestOf (n.row stop).pending }
+        ensures { (n : LawNode) → Shows S.Store N.NameSet C.Computation self.now n → n.power.on ≡ true → stop < stops → result ≡ oldest_of (n.row stop).pending }
     {
         self.panel.at(stop)
     }
 
     // Of each stop's oldest pending production the one with the greatest amount, with its stop; ties go to the lowest.
     pub fn greatest(&self) -> Option<(u16, Production)>
-        ensures { (n : LawNode) → Shows S.Store N.NameSet C.Computation self.now n → n.power.on ≡ true → result ≡ greatestOf n.row }
+        ensures { (n : LawNode) → Shows S.Store N.NameSet C.Computation self.now n → n.power.on ≡ true → result ≡ greatest_of n.row }
     {
         self.panel.first()
     }

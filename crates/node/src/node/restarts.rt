@@ -1,6 +1,6 @@
 // Making a node, and power returns to it: what is kept beside the rows is made again from them, stops rising.
 ghost use Rattle.std.specs.Prelude.{◌≡◌, Bool, true, false};
-ghost use Rattle.law.specs.Node.{Node as LawNode, restart as restartOf};
+ghost use Rattle.law.specs.Node.{Node as LawNode, restart as restart_of};
 ghost use Rattle.law.specs.Run.{NewNode};
 ghost use Rattle.ledger.specs.Kept.{Kept, Blank};
 ghost use Rattle.node.specs.Remaking.{Emptied, Wakes, Remakes, RemakesStops, RemakesStop};
@@ -37,7 +37,7 @@ impl<S: Store, N: NameSet, C: Computation> Node<S, N, C> {
 
     // Power returns for so many writes; the write that it fails at leaves what the tear says, or the junk page.
     pub fn restart(&mut self, left: u32, tear: u8, junk: &[u8]) -> Result<Answer, Damaged>
-        ensures { Wakes S.Store N.NameSet C.Computation self.old self.new left result (λ free n. restartOf free left tear junk.now n) }
+        ensures { Wakes S.Store N.NameSet C.Computation self.old self.new left result (λ free n. restart_of free left tear junk.now n) }
     {
         match self.store.restart(left, tear, junk) {
             Answer::Done => {

@@ -1,6 +1,6 @@
 // The pending productions of a stop's row.
 ghost use Rattle.std.specs.Prelude.{◌≡◌, if◌then◌else◌};
-ghost use Rattle.model.specs.Row.{room_for_one, cleared_row as cleared, oldest as oldestOf};
+ghost use Rattle.model.specs.Row.{room_for_one, cleared_row as cleared, oldest as oldest_of};
 ghost use Rattle.model.specs.Answers.{is_done};
 ghost use Rattle.rows.specs.Edits.{produced};
 ghost use Rattle.rows.specs.Meaning.{row_of};
@@ -13,7 +13,7 @@ use model::{Answer, Production};
 impl StopRow {
     // The production that has been pending longest.
     pub fn oldest(&self) -> Option<Production>
-        ensures { result ≡ oldestOf (row_of self.now).pending }
+        ensures { result ≡ oldest_of (row_of self.now).pending }
     {
         match self.pending.as_slice() {
             [] => None,

@@ -2,7 +2,7 @@ use Rattle.std.proofs.Common.{◌≡◌, ℕ, ◌<◌, ◌≤◌, true, ltb, leb
 use Rattle.std.proofs.lemmas.Bool.{cond-true, leb-true}
 use Rattle.model.specs.OnBytes.{on_bytes}
 use Rattle.model.specs.Limits.{stops}
-use Rattle.agenda.specs.Meaning.{due_at, earliest as earliestOf}
+use Rattle.agenda.specs.Meaning.{due_at, earliest as earliest_of}
 use Rattle.law.specs.Node.{fire_due}
 use Rattle.law.specs.Stops.{earliest}
 use Rattle.law.proofs.Best.{earliest_due}
@@ -23,7 +23,7 @@ returns-in-Some g c = λ n shows.
     let on = sym (is_on store set computation g.met.S.Store.turn_within v n shows) ∙ sym c.if-not-is-on.ensures in
     let f = shows.follows on in
     let best = best_same (λ (d e : ℕ). ltb d e) (due_at v.timers) (λ s. ops.due (n.row s).state) stops f.due in
-    let due = some_due v.watermark c.in-Some.stop (earliestOf (due_at v.timers)) (sym c.in-Some.ensures) in
+    let due = some_due v.watermark c.in-Some.stop (earliest_of (due_at v.timers)) (sym c.in-Some.ensures) in
     let first = sym best ∙ due.1 in
     let there = earliest_due ops n.row (c.in-Some.stop, due.0) first in
     let reached : due.0 ≤ n.w = omega (arith, leb-true due.0 v.watermark due.2, f.watermark) in
