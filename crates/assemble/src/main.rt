@@ -13,7 +13,7 @@ fn main(rt: HostRuntime) -> io::Result<()> {
         Ok(script) => rt.stdout().write_all(script.as_slice()),
         Err(failure) => {
             eprintln!(rt; "{failure}")?;
-            Err(Error::from_static_message(ErrorKind::InvalidInput, "a line is wrong"))
+            Err(Error::new(ErrorKind::InvalidInput, "a line is wrong"))
         }
     }
 }
