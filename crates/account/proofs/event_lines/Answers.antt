@@ -21,11 +21,11 @@ loop-i-preserved c =
     let os = c.args.outcomes.now in
     let i = c.loop-i.i in
     let text = string_bytes c.loop-i.text in
-    let line = string_bytes c.in-ok-line.line in
+    let line = string_bytes c.in_ok-line.line in
     let below : i < length os = omega arith in
-    let pushed = c.in-ok-push-str.ensures.bytes ∙ ap (λ (l : List ℕ). text ++ l) c.as-str.ensures.value in
+    let pushed = c.in_ok-push_str.ensures.bytes ∙ ap (λ (l : List ℕ). text ++ l) c.as_str.ensures.value in
     ap (λ (t : List ℕ). t ++ events_from (i + 1 + 1) (drop (i + 1) os)) pushed
-    ∙ sym (more os i (Plain Done) text line below c.in-ok-line.ensures)
+    ∙ sym (more os i (Plain Done) text line below c.in_ok-line.ensures)
     ∙ c.loop-i.invariant
 
 pub returns : goal.returns
