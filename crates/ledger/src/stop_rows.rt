@@ -11,8 +11,8 @@ use stores::Store;
 
 // The row of a stop; none if it cannot be read, or is no row of a stop.
 pub fn read_row<S: Store>(store: &mut S, stop: u16) -> Option<StopRow>
-    ensures reads { fit store.old → RowRead (fit store.new) (model store.old) (model store.new) stop result }
-    ensures cuts_stay { fit store.old → (commit_cut store.new ≡ commit_cut store.old) × (restart_cut store.new ≡ restart_cut store.old) }
+    ensures reads { S.fit store.old → RowRead (S.fit store.new) (S.model store.old) (S.model store.new) stop result }
+    ensures cuts_stay { S.fit store.old → (S.commit_cut store.new ≡ S.commit_cut store.old) × (S.restart_cut store.new ≡ S.restart_cut store.old) }
 {
     let mut bytes = [0; 512];
     match store.read(usize::from(stop), &mut bytes) {
@@ -23,7 +23,7 @@ pub fn read_row<S: Store>(store: &mut S, stop: u16) -> Option<StopRow>
 
 // Makes this the row of a stop.
 pub fn commit_row<S: Store>(store: &mut S, stop: u16, row: &StopRow) -> Answer
-    ensures { fit store.old → (computation : Computation (List ℕ)) (wake : CutPoint) → RowCommitted (fit store.new) (record { computation = computation; cost = cost; turn = turn }) (record { owed = (model store.new).power.owed; point = commit_cut store.old; wake = wake }) (model store.old) (model store.new) stop (row_of row.now) result }
+    ensures { S.fit store.old → (computation : Computation (List ℕ)) (wake : CutPoint) → RowCommitted (S.fit store.new) (record { computation = computation; cost = S.cost; turn = S.turn }) (record { owed = (S.model store.new).power.owed; point = S.commit_cut store.old; wake = wake }) (S.model store.old) (S.model store.new) stop (row_of row.now) result }
 {
     let bytes = row.encode();
     store.commit(usize::from(stop), &bytes)

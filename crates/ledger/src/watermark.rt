@@ -13,8 +13,8 @@ const WATERMARK_ROW: usize = 32;
 
 // The watermark; none if it cannot be read, or its row is none.
 pub fn read_watermark<S: Store>(store: &mut S) -> Option<u32>
-    ensures reads { fit store.old → WatermarkRead (fit store.new) (model store.old) (model store.new) result }
-    ensures cuts_stay { fit store.old → (commit_cut store.new ≡ commit_cut store.old) × (restart_cut store.new ≡ restart_cut store.old) }
+    ensures reads { S.fit store.old → WatermarkRead (S.fit store.new) (S.model store.old) (S.model store.new) result }
+    ensures cuts_stay { S.fit store.old → (S.commit_cut store.new ≡ S.commit_cut store.old) × (S.restart_cut store.new ≡ S.restart_cut store.old) }
 {
     let mut bytes = [0; 512];
     match store.read(WATERMARK_ROW, &mut bytes) {
@@ -28,7 +28,7 @@ pub fn read_watermark<S: Store>(store: &mut S) -> Option<u32>
 
 // Makes this the watermark.
 pub fn commit_watermark<S: Store>(store: &mut S, watermark: u32) -> Answer
-    ensures { fit store.old → (computation : Computation (List ℕ)) (wake : CutPoint) → WatermarkCommitted (fit store.new) (record { computation = computation; cost = cost; turn = turn }) (record { owed = (model store.new).power.owed; point = commit_cut store.old; wake = wake }) (model store.old) (model store.new) watermark result }
+    ensures { S.fit store.old → (computation : Computation (List ℕ)) (wake : CutPoint) → WatermarkCommitted (S.fit store.new) (record { computation = computation; cost = S.cost; turn = S.turn }) (record { owed = (S.model store.new).power.owed; point = S.commit_cut store.old; wake = wake }) (S.model store.old) (S.model store.new) watermark result }
 {
     let bytes = WatermarkRow { watermark }.encode();
     store.commit(WATERMARK_ROW, &bytes)

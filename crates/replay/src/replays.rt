@@ -22,7 +22,7 @@ pub fn replay<S: Store, N: NameSet, C: Conserving, T: Store, O: NameSet, D: Tota
     pair: &mut Pair<S, N, C, T, O, D>,
     script: &[u8],
 ) -> Result<String, Stopped>
-    ensures account { IfOk result (λ t. Replays S.Store N.NameSet C.Computation T.Store O.NameSet D.Computation (λ bs. holds (C.Computation.operations.load bs)) (λ bs. totals (D.Computation.operations.load bs)) pair.old pair.new script.now (string_bytes t)) }
+    ensures account { IfOk result (λ t. Replays S.Store N.NameSet C.Computation T.Store O.NameSet D.Computation (λ bs. C.holds (C.Computation.operations.load bs)) (λ bs. D.totals (D.Computation.operations.load bs)) pair.old pair.new script.now (string_bytes t)) }
     ensures undamaged { IfErr result (λ e. e ≡ DamagedRow → (p : LawPair) → Shows S.Store N.NameSet C.Computation T.Store O.NameSet D.Computation pair.old p → ⊥) }
 {
     let Ok(script) = whole_script(heap, script) else {

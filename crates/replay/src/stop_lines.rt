@@ -15,7 +15,7 @@ pub fn stop_lines<S: Store, N: NameSet, C: Conserving, T: Store, O: NameSet, D: 
     heap: Global,
     pair: &mut Pair<S, N, C, T, O, D>,
 ) -> Result<String, Stopped>
-    ensures { Says S.Store N.NameSet C.Computation T.Store O.NameSet D.Computation pair.old pair.new (λ p. stop_lines (told_of (λ bs. holds (C.Computation.operations.load bs)) (λ bs. totals (D.Computation.operations.load bs)) p)) result }
+    ensures { Says S.Store N.NameSet C.Computation T.Store O.NameSet D.Computation pair.old pair.new (λ p. stop_lines (told_of (λ bs. C.holds (C.Computation.operations.load bs)) (λ bs. D.totals (D.Computation.operations.load bs)) p)) result }
 {
     let mut text = String::new(heap);
     for stop in 0..32 {
@@ -36,7 +36,7 @@ fn one_stop<S: Store, N: NameSet, C: Conserving, T: Store, O: NameSet, D: Totall
     pair: &mut Pair<S, N, C, T, O, D>,
     stop: u16,
 ) -> Result<String, Stopped>
-    ensures { Says S.Store N.NameSet C.Computation T.Store O.NameSet D.Computation pair.old pair.new (λ p. tally_line stop (told_of (λ bs. holds (C.Computation.operations.load bs)) (λ bs. totals (D.Computation.operations.load bs)) p stop)) result }
+    ensures { Says S.Store N.NameSet C.Computation T.Store O.NameSet D.Computation pair.old pair.new (λ p. tally_line stop (told_of (λ bs. C.holds (C.Computation.operations.load bs)) (λ bs. D.totals (D.Computation.operations.load bs)) p stop)) result }
 {
     match pair.tally(stop) {
         Ok(Some(tally)) => match stop_line(heap, stop, tally.held, tally.pending, tally.landed) {

@@ -12,7 +12,7 @@ use rows::StopRow;
 // Fires the due of a row at a watermark, and gives the stop's new floor; or the answer that refuses it, and the row is
 // then of no more use.
 pub fn fire_row<C: Computation>(row: &mut StopRow, w: u32) -> Result<u32, Answer>
-    ensures { Reached (on_bytes operations) w (row_of row.old) → MatchResult result (Fired (on_bytes operations) w (row_of row.old) (row_of row.new)) (Unfired (row_of row.old)) }
+    ensures { Reached (on_bytes C.operations) w (row_of row.old) → MatchResult result (Fired (on_bytes C.operations) w (row_of row.old) (row_of row.new)) (Unfired (row_of row.old)) }
 {
     match row.room_for_one() {
         Answer::Done => {}

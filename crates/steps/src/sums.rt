@@ -11,7 +11,7 @@ use rows::StopRow;
 
 // The least of a number, the row's pending times and its due.
 pub fn low_in<C: Computation>(row: &StopRow, low: u32) -> u32
-    ensures { result ≡ least_due ((on_bytes operations).due (row_of row.now).state) (least_time (row_of row.now).pending low) }
+    ensures { result ≡ least_due ((on_bytes C.operations).due (row_of row.now).state) (least_time (row_of row.now).pending low) }
 {
     let least = least_time(row.pending(), low);
     match due_in::<C>(row.state()) {

@@ -19,7 +19,7 @@ pub fn take_record<C: Computation>(
     seen: bool,
     given: &Record,
 ) -> Result<u32, Answer>
-    ensures { seen ≡ seen_in given.now.name (row_of row.old).names → MatchResult result (Took (on_bytes operations) on w given.now (row_of row.old) (row_of row.new)) (Refused (on_bytes operations) on w given.now (row_of row.old)) }
+    ensures { seen ≡ seen_in given.now.name (row_of row.old).names → MatchResult result (Took (on_bytes C.operations) on w given.now (row_of row.old) (row_of row.new)) (Refused (on_bytes C.operations) on w given.now (row_of row.old)) }
 {
     let (state, emission) = match consider::<C>(row.state(), on, w, seen, given) {
         Ok(taken) => taken,

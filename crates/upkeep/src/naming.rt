@@ -7,14 +7,14 @@ use names::NameSet;
 
 // Takes a stop's names below the floor out of the set, if any fell, and puts in the one that came, if one did.
 pub fn rename<N: NameSet>(names: &mut N, stop: u16, floor: Option<u32>, come: Option<Name>)
-    ensures { fit names.old → Renamed (fit names.new) (meaning names.old) (meaning names.new) stop floor come }
+    ensures { N.fit names.old → Renamed (N.fit names.new) (N.meaning names.old) (N.meaning names.new) stop floor come }
 {
     forget(names, stop, floor);
     remember(names, stop, come);
 }
 
 fn forget<N: NameSet>(names: &mut N, stop: u16, floor: Option<u32>)
-    ensures { fit names.old → Forgot (fit names.new) (meaning names.old) (meaning names.new) stop floor }
+    ensures { N.fit names.old → Forgot (N.fit names.new) (N.meaning names.old) (N.meaning names.new) stop floor }
 {
     match floor {
         Some(floor) => names.drop_below(stop, floor),
@@ -23,7 +23,7 @@ fn forget<N: NameSet>(names: &mut N, stop: u16, floor: Option<u32>)
 }
 
 fn remember<N: NameSet>(names: &mut N, stop: u16, come: Option<Name>)
-    ensures { fit names.old → Remembered (fit names.new) (meaning names.old) (meaning names.new) stop come }
+    ensures { N.fit names.old → Remembered (N.fit names.new) (N.meaning names.old) (N.meaning names.new) stop come }
 {
     match come {
         Some(name) => {

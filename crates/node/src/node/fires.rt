@@ -41,7 +41,7 @@ impl<S: Store, N: NameSet, C: Computation> Node<S, N, C> {
 
     // Fires the due of a stop that the watermark has reached.
     fn fire_stop(&mut self, stop: u16) -> Result<Answer, Damaged>
-        ensures { AnswersIf S.Store N.NameSet C.Computation self.old self.new (λ n. (n.power.on ≡ true) × (stop < stops) × Reached (on_bytes operations) n.w (n.row stop)) result (λ kit free n. fire_as kit free stop (room_for_one (n.row stop)) n) }
+        ensures { AnswersIf S.Store N.NameSet C.Computation self.old self.new (λ n. (n.power.on ≡ true) × (stop < stops) × Reached (on_bytes C.operations) n.w (n.row stop)) result (λ kit free n. fire_as kit free stop (room_for_one (n.row stop)) n) }
     {
         let Some(mut row) = self.row(stop) else {
             return Err(Damaged);

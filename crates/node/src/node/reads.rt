@@ -49,7 +49,7 @@ impl<S: Store, N: NameSet, C: Computation> Node<S, N, C> {
 
     // The least of the watermark, all pending times and all dues, from the rows.
     pub fn low_watermark(&mut self) -> Result<u32, Damaged>
-        ensures { Finds S.Store N.NameSet C.Computation self.old self.new (λ n. n.power.on ≡ true) result (λ n. lowest (on_bytes operations) n.row n.w) }
+        ensures { Finds S.Store N.NameSet C.Computation self.old self.new (λ n. n.power.on ≡ true) result (λ n. lowest (on_bytes C.operations) n.row n.w) }
     {
         let mut low = self.watermark;
         for stop in 0..32 {
@@ -75,7 +75,7 @@ impl<S: Store, N: NameSet, C: Computation> Node<S, N, C> {
 impl<S: Store, N: NameSet, C: Conserving> Node<S, N, C> {
     // How much a stop's state holds.
     pub fn held(&mut self, stop: u16) -> Result<u32, Damaged>
-        ensures { Finds S.Store N.NameSet C.Computation self.old self.new (λ n. (n.power.on ≡ true) × (stop < stops)) result (λ n. holds (C.Computation.operations.load (n.row stop).state)) }
+        ensures { Finds S.Store N.NameSet C.Computation self.old self.new (λ n. (n.power.on ≡ true) × (stop < stops)) result (λ n. C.holds (C.Computation.operations.load (n.row stop).state)) }
     {
         match self.row(stop) {
             Some(row) => Ok(held_in::<C>(row.state())),
@@ -87,7 +87,7 @@ impl<S: Store, N: NameSet, C: Conserving> Node<S, N, C> {
 impl<S: Store, N: NameSet, C: Totalling> Node<S, N, C> {
     // The total of what a stop has taken.
     pub fn total(&mut self, stop: u16) -> Result<u32, Damaged>
-        ensures { Finds S.Store N.NameSet C.Computation self.old self.new (λ n. (n.power.on ≡ true) × (stop < stops)) result (λ n. totals (C.Computation.operations.load (n.row stop).state)) }
+        ensures { Finds S.Store N.NameSet C.Computation self.old self.new (λ n. (n.power.on ≡ true) × (stop < stops)) result (λ n. C.totals (C.Computation.operations.load (n.row stop).state)) }
     {
         match self.row(stop) {
             Some(row) => Ok(total_in::<C>(row.state())),
