@@ -1,15 +1,15 @@
 -- How many names a set holds: as many as a list of them has, and no more than any list that covers them.
-use Rattle.std.proofs.Common.{◌≡◌, ℕ, zero, suc, ◌+◌, ◌*◌, ◌<◌, ◌≤◌, Bool, true, false, cond, ◌&&◌, ◌||◌, eqb, ltb, ◌⊎◌, List, [], ◌∷◌, ◌++◌, map, length, sym, refl, ap, ◌∙◌, subst, inl, inr, zero-le, arith, length-append}
+use Rattle.std.proofs.Common.{◌≡◌, ℕ, zero, suc, ◌+◌, ◌*◌, ◌<◌, ◌≤◌, true, false, cond, ◌||◌, eqb, ltb, ◌⊎◌, List, [], ◌∷◌, ◌++◌, map, length, sym, refl, ap, ◌∙◌, subst, inl, inr, zero-le, arith, length-append}
 use Rattle.std.proofs.lemmas.List.{length-map}
-use Rattle.std.proofs.lemmas.Bool.{or_cases, or_left, or_right, or_from, cases_Bool, both_ways, and_from, eq-eqb, cond-true, cond-false, lt-ltb, cases_eq}
+use Rattle.std.proofs.lemmas.Bool.{or_cases, or_left, or_right, cases_Bool, both_ways, and_from, eq-eqb, cond-true, cond-false, lt-ltb, cases_eq}
 use Rattle.model.specs.declared.answer.Answer.TheVariants.{Done, Seen, Full}
 use Rattle.model.specs.declared.record.Name.{Name}
 use Rattle.names.specs.declared.taken.Taken.{Taken}
 use Rattle.model.specs.Names.{same_name}
 use Rattle.names.specs.Held.{Meaning, Counted, Apart, same_taken, listed, most_taken}
-use Rattle.names.specs.Changes.{add_answer, with_name, grown}
+use Rattle.names.specs.Changes.{grown}
 use Rattle.model.specs.Names.{named}
-use Rattle.names.specs.Rows.{InRows, Covered, Room, Sized}
+use Rattle.names.specs.Rows.{Covered, Room, Sized}
 use Rattle.names.proofs.Listing.{taken, same_is, is_same, listed_append}
 
 -- the list without the first place at which p stands

@@ -1,10 +1,9 @@
 -- When a set is made of what rows hold: so it is never full for a name that a row has room for. Assumes nothing.
-use Rattle.std.specs.Prelude.{◌≡◌, ℕ, ◌<◌, ◌≤◌, Bool, true, false, ◌||◌, List, [], ◌∷◌, length}
+use Rattle.std.specs.Prelude.{◌≡◌, ℕ, ◌<◌, ◌≤◌, Bool, true, false, List, length}
 use Rattle.model.specs.Names.{named}
 use Rattle.model.specs.Limits.{stops, most_names}
 use Rattle.model.specs.declared.answer.Answer.TheVariants.{Done}
 use Rattle.model.specs.declared.record.Name.{Name}
-use Rattle.model.specs.Names.{same_name}
 use Rattle.names.specs.Held.{Meaning, Counted, listed}
 use Rattle.names.specs.declared.taken.Taken.{Taken}
 use Rattle.names.specs.Changes.{add_answer, with_name}

@@ -7,7 +7,7 @@ use model::{Answer, Name};
 
 // Puts in names that were taken at one stop. `Done` if all of them are in then; `Full` if one found no room.
 pub fn add_all<N: NameSet>(set: &mut N, stop: u16, names: &[Name]) -> Answer
-    ensures { fit set.old → AddedAll (fit set.new) (meaning set.old) stop names.now result (meaning set.new) }
+    ensures { N.fit set.old → AddedAll (N.fit set.new) (N.meaning set.old) stop names.now result (N.meaning set.new) }
 {
     for name in names {
         match set.add(stop, *name) {

@@ -11,7 +11,7 @@ returns-in-Full g c = λ fit. let f = c.loop-name.invariant fit in overfull f (c
 pub loop-name-preserved : goal.loop-name-preserved
 loop-name-preserved g c = λ fit.
     let f = c.loop-name.invariant fit in
-    filling_more (record { sender = 0; serial = 0; time = 0 }) f (c.add.ensures f.fit) c.in-default.not-Full c.loop-name-test.true refl
+    filling_more (record { sender = 0; serial = 0; time = 0 }) f (c.add.ensures f.fit) c.in_default.not-Full c.loop-name-test.true refl
 
 pub returns : goal.returns
 returns g c = λ fit. filled (c.loop-name.invariant fit) c.loop-name.auto.name-index-end c.loop-name-test.false
