@@ -1,5 +1,5 @@
 -- What follows for a state that was loaded from 32 bytes and is then judged, taken from or fired.
-use Rattle.std.proofs.Common.{◌≡◌, ℕ, ◌<◌, ◌≤◌, min, Bool, List, Some, None, Option, sym, refl, ap, ◌∙◌, subst, arith}
+use Rattle.std.proofs.Common.{◌≡◌, ℕ, ◌≤◌, min, Bool, List, Some, Option, sym, subst, arith}
 use Rattle.model.specs.Limits.{most_amount, last_time}
 use Rattle.model.specs.Admission.{judged}
 use Rattle.model.specs.Computation.{Computation, Lawful, Takes, Fires, StateBytes}
@@ -7,7 +7,7 @@ use Rattle.model.specs.declared.record.Record.{Record}
 use Rattle.model.specs.declared.answer.Answer.{Answer}
 use Rattle.model.specs.declared.answer.Answer.TheVariants.{Done}
 use Rattle.model.proofs.Admitted.{may_take}
-use Rattle.computations.specs.Judging.{Taken, Refused, Fired, Quiet}
+use Rattle.computations.specs.Judging.{Taken, Refused, Fired}
 
 module _ {S : Type 0} (c : Computation S) (Sound : S → Type 0) (l : Lawful c Sound) (bs : List ℕ) (b : StateBytes bs) (s : S) (e : s ≡ c.load bs) where
   pub sound_state : Sound s

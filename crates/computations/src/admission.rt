@@ -13,7 +13,7 @@ pub fn admit<C: Computation>(
     seen: bool,
     given: &Record,
 ) -> Answer
-    ensures { sound state.now → result ≡ judged operations state.now on w seen given.now }
+    ensures { C.sound state.now → result ≡ judged C.operations state.now on w seen given.now }
 {
     let floor = C::mark(state).max(w);
     let verdict = C::verdict(state, w, given.name.time, given.amount);

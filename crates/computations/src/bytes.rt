@@ -7,19 +7,19 @@ use super::computation::Computation;
 use super::weight::{Conserving, Totalling};
 
 pub fn lawful_on_bytes<C: Computation>() -> u8
-    ensures { Lawful (on_bytes operations) StateBytes }
+    ensures { Lawful (on_bytes C.operations) StateBytes }
 {
     0
 }
 
 pub fn conserves_on_bytes<C: Conserving>() -> u8
-    ensures { Conserves (on_bytes C.Computation.operations) StateBytes (λ bs. holds (C.Computation.operations.load bs)) }
+    ensures { Conserves (on_bytes C.operations) StateBytes (λ bs. C.holds (C.operations.load bs)) }
 {
     0
 }
 
 pub fn totals_on_bytes<C: Totalling>() -> u8
-    ensures { Totals (on_bytes C.Computation.operations) StateBytes (λ bs. totals (C.Computation.operations.load bs)) }
+    ensures { Totals (on_bytes C.operations) StateBytes (λ bs. C.totals (C.operations.load bs)) }
 {
     0
 }

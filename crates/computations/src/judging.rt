@@ -15,7 +15,7 @@ pub fn consider<C: Computation>(
     seen: bool,
     given: &Record,
 ) -> Result<(C::State, Option<(u32, u16)>), Answer>
-    ensures { Considered operations sound (operations.load bytes.now) on w seen given.now result }
+    ensures { Considered C.operations C.sound (C.operations.load bytes.now) on w seen given.now result }
 {
     let state = C::load(bytes);
     match admit::<C>(&state, on, w, seen, given) {
@@ -26,7 +26,7 @@ pub fn consider<C: Computation>(
 
 // The state after its due was fired and what it emits, if the watermark has reached one.
 pub fn fire_due<C: Computation>(bytes: &[u8; 32], w: u32) -> Option<(C::State, Option<(u32, u16)>)>
-    ensures { Attended operations sound (operations.load bytes.now) w result }
+    ensures { Attended C.operations C.sound (C.operations.load bytes.now) w result }
 {
     let state = C::load(bytes);
     match C::due(&state) {
@@ -37,7 +37,7 @@ pub fn fire_due<C: Computation>(bytes: &[u8; 32], w: u32) -> Option<(C::State, O
 
 // The second at which the state wants to fire, if it does.
 pub fn due_in<C: Computation>(bytes: &[u8; 32]) -> Option<u32>
-    ensures { result ≡ operations.due (operations.load bytes.now) }
+    ensures { result ≡ C.operations.due (C.operations.load bytes.now) }
 {
     let state = C::load(bytes);
     C::due(&state)

@@ -28,7 +28,7 @@ pub trait Totalling: Computation {
 
 // What the state of 32 bytes holds.
 pub fn held_in<C: Conserving>(bytes: &[u8; 32]) -> u32
-    ensures { result ≡ holds (C.Computation.operations.load bytes.now) }
+    ensures { result ≡ C.holds (C.operations.load bytes.now) }
 {
     let state = C::load(bytes);
     C::held(&state)
@@ -36,7 +36,7 @@ pub fn held_in<C: Conserving>(bytes: &[u8; 32]) -> u32
 
 // The total so far of the state of 32 bytes.
 pub fn total_in<C: Totalling>(bytes: &[u8; 32]) -> u32
-    ensures { result ≡ totals (C.Computation.operations.load bytes.now) }
+    ensures { result ≡ C.totals (C.operations.load bytes.now) }
 {
     let state = C::load(bytes);
     C::total(&state)
