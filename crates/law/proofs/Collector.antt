@@ -22,7 +22,7 @@ use Rattle.law.specs.Stops.{earliest}
 use Rattle.law.proofs.Best.{earliest_due}
 use Rattle.law.proofs.Judged.{considered_plain, considered_lets, considered_stop, refused_wrote, commit_wrote, fire_room_plain}
 use Rattle.law.proofs.Moves.{Step, Move, still, stop, advances}
-use Rattle.law.proofs.Next.{lane_of, world_of, grown, next_world, lane_path, row_at, row_off, took_at, took_off, took_none, none_added, same_grown, drop_length, drop_all}
+use Rattle.law.proofs.Next.{lane_of, world_of, grown, next_world, lane_path, row_at, row_off, took_at_lem, took_off, took_none, none_added, same_grown, drop_length, drop_all}
 use Rattle.law.proofs.World.{Lane, World}
 
 -- the production that stands first among the pending is the one that is meant
@@ -138,7 +138,7 @@ module _ (kits : Kits) (ck : Keeps kits.collector) (es : List Event) (p : Pair) 
       (λ e. commit_grows free r.stop (taken_row c n.w r row) (λ b. cond b (r ∷ []) []) (produced (take_of c n.w r row).1 row.next) (taken kits r.stop es ++ (r ∷ []))
       refl (considered_stop c n.power.on n.w r row e) refl
       (Step.takes r (considered_lets c n.power.on n.w r row e))
-      (took_at kits es p r) (λ q ne. took_off kits es p q r ne))
+      (took_at_lem kits es p r) (λ q ne. took_off kits es p q r ne))
       (λ e. let f = considered_plain c n.power.on n.w r row in
       quiet
       (cond (wrote kits.collector n.power a) (r ∷ []) [])

@@ -19,7 +19,7 @@ use Rattle.law.specs.Node.{Keeps, Free, wrote, hand_in, commit_row}
 use Rattle.law.specs.Pair.{Kits, Pair, happens, as_record}
 use Rattle.model.specs.Answers.{is_done}
 use Rattle.law.specs.Rows.{take_of, taken_row, produced, considered}
-use Rattle.law.specs.Run.{Event, Run, fires, lands, other, deed_of, taken_as, all_taken, taken, made, landed, waiting, collector_wrote, arrival}
+use Rattle.law.specs.Run.{Event, Run, fires, other, deed_of, taken_as, all_taken, taken, made, landed, waiting, collector_wrote, arrival}
 use Rattle.law.proofs.Calls.{call_moves}
 use Rattle.law.proofs.Judged.{considered_plain, considered_stop, refused_wrote}
 use Rattle.law.proofs.Lists.{map-++, total-++, mem_split}

@@ -68,11 +68,11 @@ room_either : (e : Option (ℕ × ℕ)) (row : Row) → is_done (room_for_one ro
 room_either None row k = tt
 room_either (Some e) row k = room_one row k
 
-room_to_take
+room_to_take_lem
     : (c : Computation (List ℕ)) (on : Bool) (w : ℕ) (r : Record) (row : Row)
     → is_done (considered c on w r row) ≡ true
     → (length (kept (floor_of c w (take_of c w r row).0) row.names) < most_names) × Room (take_of c w r row).1 row
-room_to_take c on w r row e = room (at (is_done (admitted c on w r row)) refl e)
+room_to_take_lem c on w r row e = room (at (is_done (admitted c on w r row)) refl e)
   where
     names : List Name
     names = kept (floor_of c w (take_of c w r row).0) row.names
@@ -219,7 +219,7 @@ module _ (kit : Kit) (keeps : Keeps kit) where
         let row = n.row r.stop in
         let old = f.rows r.stop in
         let tk = TakesOf c n.w r row old.state f.watermark (considered_lets c n.power.on n.w r row e) in
-        let room = room_to_take c n.power.on n.w r row e in
+        let room = room_to_take_lem c n.power.on n.w r row e in
         let step = take_of c n.w r row in
         let most : c.mark step.0 ≤ r.name.time =
         law.take_mark_bound row.state n.w r.name.time r.amount r.name.time tk tk.past_mark tk.past_watermark (le_refl r.name.time) in

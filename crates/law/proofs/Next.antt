@@ -14,7 +14,7 @@ use Rattle.law.specs.Node.{with_row, wrote}
 use Rattle.law.specs.Pair.{Kits, Pair}
 use Rattle.law.specs.Run.{Event, Deed, all_taken, taken, made, landed, taken_as, made_as, landed_as, added}
 use Rattle.law.proofs.Lists.{mem_split}
-use Rattle.law.proofs.Moves.{Same, stop}
+use Rattle.law.proofs.Moves.{Same}
 use Rattle.law.proofs.World.{Lane, World}
 
 pub drop_length : {X : Type 0} (xs ys : List X) → drop (length xs) (xs ++ ys) ≡ ys
@@ -112,10 +112,10 @@ module _ (kits : Kits) (es : List Event) (p : Pair) where
   none_added xs ys e = ap (λ zs. xs ++ zs) e ∙ append-nil xs
 
   -- a record taken stands last at its stop, and at no other
-  pub took_at
+  pub took_at_lem
       : (r : Record)
       → filter (λ x. eqb x.stop r.stop) (all_taken kits es ++ (r ∷ [])) ≡ taken kits r.stop es ++ (r ∷ [])
-  took_at r =
+  took_at_lem r =
       filter-append (λ x. eqb x.stop r.stop) (all_taken kits es) (r ∷ []) ∙
       ap (λ b. taken kits r.stop es ++ cond b (r ∷ []) []) (eq-eqb r.stop r.stop refl)
 

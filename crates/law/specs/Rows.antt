@@ -1,13 +1,13 @@
 -- What taking, firing and clearing make of a stop's row. Assumes nothing.
-use Rattle.std.specs.Prelude.{ℕ, ◌+◌, max, Bool, false, cond, ◌&&◌, ◌||◌, List, [], ◌∷◌, ◌++◌, length, drop, Some, None, filter, Option, ◌==◌, nat_le}
+use Rattle.std.specs.Prelude.{ℕ, ◌+◌, max, Bool, false, cond, List, [], ◌∷◌, ◌++◌, length, Some, None, Option, ◌==◌, nat_le}
 use Rattle.model.specs.Admission.{judged}
 use Rattle.model.specs.Answers.{is_done}
 use Rattle.model.specs.Computation.{Computation}
-use Rattle.model.specs.Limits.{last_serial, most_pending, most_names}
+use Rattle.model.specs.Limits.{most_names}
 use Rattle.model.specs.Names.{named, kept}
 use Rattle.model.specs.Row.{Row, room_for_one}
 use Rattle.model.specs.declared.answer.Answer.{Answer}
-use Rattle.model.specs.declared.answer.Answer.TheVariants.{Done, Over, Full, NoRoom}
+use Rattle.model.specs.declared.answer.Answer.TheVariants.{Done, Full}
 use Rattle.model.specs.declared.record.Name.{Name}
 use Rattle.model.specs.declared.record.Record.{Record}
 use Rattle.model.specs.declared.record.Production.{Production}

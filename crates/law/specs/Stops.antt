@@ -1,5 +1,5 @@
 -- What is asked of all stops together. Assumes nothing.
-use Rattle.std.specs.Prelude.{ℕ, zero, suc, ◌+◌, min, Bool, cond, List, [], ◌∷◌, ◌++◌, Some, None, Option, nat_lt}
+use Rattle.std.specs.Prelude.{ℕ, zero, suc, ◌+◌, min, List, [], ◌∷◌, ◌++◌, Some, None, Option, nat_lt}
 use Rattle.model.specs.Computation.{Computation}
 use Rattle.model.specs.Limits.{stops}
 use Rattle.model.specs.FirstBest.{first_best}
