@@ -1,20 +1,20 @@
 -- What the two sifts keep from swap to swap, and how they end.
-use Rattle.std.proofs.Common.{◌≡◌, ℕ, zero, suc, ◌+◌, ◌-◌, ◌*◌, ◌/◌, ◌<◌, ◌≤◌, Bool, true, false, ◌⊎◌, List, length, get_or, Ordering, sym, refl, ap, ◌∙◌, subst, inl, inr, arith}
+use Rattle.std.proofs.Common.{◌≡◌, ℕ, ◌+◌, ◌*◌, ◌/◌, ◌<◌, ◌≤◌, Bool, true, false, List, length, get_or, Ordering, refl, subst, inl, inr, arith}
 use Rattle.std.specs.Cmp.{IsTotalOrder}
 use Rattle.std.specs.Ordering.{is_lt}
 use Rattle.std.proofs.Permutation.{which}
-use Rattle.std.proofs.HeapSift.{ranks}
+use Rattle.std.proofs.lemmas.List.MinMax.{ranks_by}
 use Rattle.std.proofs.lemmas.List.Edits.{Swapped}
-use Rattle.std.proofs.lemmas.List.Filters.{SwapPlaces}
-use Rattle.heap.specs.Heaps.{parent, AtMost, HeapedFrom, Heaped, HeapedBut, OverChildren, UnderParent, Tells, LeastChild, Least}
+use Rattle.std.specs.List.{SwappedAt}
+use Rattle.heap.specs.Heaps.{parent, AtMost, HeapedFrom, Heaped, HeapedBut, OverChildren, UnderParent, Tells, LeastChild}
 use Rattle.heap.proofs.Steps.{closes, up_rest, up_across, up_over, down_rest, down_across, down_under}
 
 module _ {X : Type 0} {R : X → X → Ordering} (o : IsTotalOrder R) where
   pub chain : (x y z : X) → AtMost o x y → AtMost o y z → AtMost o x z
-  chain x y z h k = (ranks o).chain z y x k h
+  chain x y z h k = (ranks_by o (λ (v : X). v)).chain z y x k h
 
   pub one_way : (x y : X) → is_lt (R x y) ≡ true → AtMost o x y
-  one_way x y h = (ranks o).one_way x y h
+  one_way x y h = (ranks_by o (λ (v : X). v)).one_way x y h
 
   pub itself : (x : X) → AtMost o x x
   itself x = go (is_lt (R x x)) refl
@@ -27,15 +27,15 @@ module _ {X : Type 0} {R : X → X → Ordering} (o : IsTotalOrder R) where
   closed low j xs h over under k d =
       closes (AtMost o) chain (λ i. get_or xs i d) low (length xs) j (λ m. h.rest m d) (λ m. over m d) (under d) k
 
-swapped : {X : Type 0} (xs ys : List X) (a b : ℕ) → SwapPlaces xs ys a b → (d : X) → Swapped (λ i. get_or xs i d) (λ i. get_or ys i d) a b
+swapped : {X : Type 0} (xs ys : List X) (a b : ℕ) → SwappedAt xs ys a b → (d : X) → Swapped (λ i. get_or xs i d) (λ i. get_or ys i d) a b
 swapped xs ys a b s d = (s.0 d, s.1 d, λ m. s.2 m d)
 
-module _ {X : Type 0} (R : X → X → Ordering → Type 0) where
+module _ {X : Type 0} (R : X → X → Ordering) where
   -- the element that stood at j₀ in xs stands at j in ys, and is not above its children
   abbrev pub Rising : List X → ℕ → List X → ℕ → Type 0
   Rising xs j₀ ys j = (o : IsTotalOrder R) → j₀ < length xs → HeapedBut o 0 j₀ xs → OverChildren o j₀ xs → HeapedBut o 0 j ys × OverChildren o j ys
 
-  pub rise_more : (xs ys zs : List X) (j₀ j : ℕ) → 0 < j → j < length ys → length zs ≡ length ys → SwapPlaces ys zs j (parent j) → Tells R ys j (parent j) true →
+  pub rise_more : (xs ys zs : List X) (j₀ j : ℕ) → 0 < j → j < length ys → length zs ≡ length ys → SwappedAt ys zs j (parent j) → Tells R ys j (parent j) true →
       Rising xs j₀ ys j → Rising xs j₀ zs (parent j)
   rise_more xs ys zs j₀ j up within long s t was o in' h over =
       let w = was o in' h over in
@@ -63,7 +63,7 @@ module _ {X : Type 0} (R : X → X → Ordering → Type 0) where
   abbrev pub Sinking : List X → ℕ → List X → ℕ → Type 0
   Sinking xs j₀ ys j = (o : IsTotalOrder R) (low : ℕ) → HeapedBut o low j₀ xs → UnderParent o low j₀ xs → HeapedBut o low j ys × UnderParent o low j ys
 
-  pub sink_more : (xs ys zs : List X) (j₀ j c : ℕ) → length zs ≡ length ys → SwapPlaces ys zs j c → LeastChild R ys j c → Tells R ys c j true →
+  pub sink_more : (xs ys zs : List X) (j₀ j c : ℕ) → length zs ≡ length ys → SwappedAt ys zs j c → LeastChild R ys j c → Tells R ys c j true →
       Sinking xs j₀ ys j → Sinking xs j₀ zs c
   sink_more xs ys zs j₀ j c long s best t was o low h under =
       let w = was o low h under in

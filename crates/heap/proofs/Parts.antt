@@ -1,10 +1,10 @@
 -- From a heap to a heap but for one place, and from its parts to its least element.
-use Rattle.std.proofs.Common.{◌≡◌, ℕ, zero, suc, ◌+◌, ◌-◌, ◌*◌, ◌/◌, ◌<◌, ◌≤◌, Bool, true, false, ◌⊎◌, List, [], ◌∷◌, ◌++◌, length, get_or, take, drop, set, IfSome, Some, None, Option, Ordering, sym, refl, ap, ◌∙◌, subst, inl, inr, zero-le, arith, Bor}
+use Rattle.std.proofs.Common.{◌≡◌, ℕ, zero, suc, ◌+◌, ◌-◌, ◌/◌, ◌<◌, ◌≤◌, true, false, List, [], ◌∷◌, ◌++◌, length, get_or, take, drop, set, IfSome, Some, None, Option, Ordering, sym, refl, ap, ◌∙◌, subst, inl, inr, zero-le, arith, Bor}
 use Rattle.std.specs.Cmp.{IsTotalOrder}
 use Rattle.std.specs.Slice.{IsGetResult}
 use Rattle.std.specs.List.Sorted.{IsPermutation}
 use Rattle.std.proofs.Permutation.{which}
-use Rattle.std.proofs.lemmas.List.Filters.{SwapPlaces}
+use Rattle.std.specs.List.{SwappedAt}
 use Rattle.std.proofs.lemmas.List.{get_or-take, get_or-drop, get_or-set_other, get_or-append-add, length-set, length-take-le, length-drop, take-append-drop, take_at}
 use Rattle.std.proofs.lemmas.List.Sorted.{IsPermutation-cons, IsPermutation-to_front, IsPermutation-sym, IsPermutation-trans, length_permutation}
 use Rattle.heap.specs.Heaps.{parent, AtMost, HeapedFrom, Heaped, HeapedBut, OverChildren, UnderParent, Tells, Least}
@@ -51,7 +51,7 @@ module _ {X : Type 0} {R : X → X → Ordering} (o : IsTotalOrder R) where
       }
 
   -- the last element in a place's stead, and the end cut off
-  pub but_swapped : (xs ys zs : List X) (j : ℕ) → j < length xs → length ys ≡ length xs → SwapPlaces xs ys j (length xs - 1) → zs ≡ take (length xs - 1) ys →
+  pub but_swapped : (xs ys zs : List X) (j : ℕ) → j < length xs → length ys ≡ length xs → SwappedAt xs ys j (length xs - 1) → zs ≡ take (length xs - 1) ys →
       Heaped o xs → HeapedBut o 0 j zs
   but_swapped xs ys zs j in' long s e h =
       let n : length zs ≡ length xs - 1 = ap length e ∙ length-take-le (length xs - 1) ys (omega arith) in
@@ -104,7 +104,7 @@ shuffled_behind xs ys (z ∷ w ∷ zs) n h = absurd (omega arith)
 
 -- the element at j stands last in ys; the others became ws
 module _ {X : Type 0} (xs ys ws : List X) (j m : ℕ) (in' : j < length xs) (end : m ≡ length xs - 1) (long : length ys ≡ length xs)
-    (s : SwapPlaces xs ys j (length xs - 1)) (moved : IsPermutation xs ys) (mended : IsPermutation (take m ys) ws) where
+    (s : SwappedAt xs ys j (length xs - 1)) (moved : IsPermutation xs ys) (mended : IsPermutation (take m ys) ws) where
   front_long : length ws ≡ length xs - 1
   front_long = length_permutation (take m ys) ws mended ∙ length-take-le m ys (omega arith) ∙ end
 

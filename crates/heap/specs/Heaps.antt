@@ -37,7 +37,7 @@ module _ {X : Type 0} {R : X → X → Ordering} (o : IsTotalOrder R) where
   abbrev pub UnderParent : ℕ → ℕ → List X → Type 0
   UnderParent low j xs = (d : X) → 0 < j → low ≤ parent j → AtMost (slice_index_or xs (parent j) d) (slice_index_or xs j d)
 
-module _ {X : Type 0} (R : X → X → Ordering → Type 0) where
+module _ {X : Type 0} (R : X → X → Ordering) where
   -- whether the element at a is below the one at b
   abbrev pub Tells : List X → ℕ → ℕ → Bool → Type 0
   Tells xs a b r = (o : IsTotalOrder R) (d : X) → is_lt (R (slice_index_or xs a d) (slice_index_or xs b d)) ≡ r

@@ -6,14 +6,14 @@ ghost use Rattle.heap.specs.Heaps.{Heaped, HeapedFrom, HeapedBut, OverChildren, 
 
 pub(crate) fn is_below<T: Ord>(items: &[T], a: usize, b: usize) -> bool
     requires { (a < length items.now) × (b < length items.now) }
-    ensures { Tells (λ x' y' r'. r' ≡ T.Ord.cmp x' y') items.now a b result }
+    ensures { Tells T.Ord.cmp items.now a b result }
 {
     items[a].cmp(&items[b]).is_lt()
 }
 
 fn least_child<T: Ord>(items: &[T], at: usize) -> usize
     requires { 2 * at + 1 < length items.now }
-    ensures { LeastChild (λ x' y' r'. r' ≡ T.Ord.cmp x' y') items.now at result }
+    ensures { LeastChild T.Ord.cmp items.now at result }
 {
     let left = 2 * at + 1;
     if left + 1 < items.len() && is_below(items, left + 1, left) {

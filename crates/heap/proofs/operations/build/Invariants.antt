@@ -1,4 +1,3 @@
-use Rattle.std.proofs.Common.{◌/◌, ◌≤◌, length}
 use Rattle.std.specs.Cmp.{IsTotalOrder}
 use Rattle.std.specs.List.Sorted.{IsPermutation}
 use Rattle.heap.specs.Heaps.{HeapedFrom}

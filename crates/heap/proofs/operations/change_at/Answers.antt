@@ -1,4 +1,4 @@
-use Rattle.std.proofs.Common.{set, sym, subst}
+use Rattle.std.proofs.Common.{sym, subst}
 use Rattle.std.specs.List.Sorted.{IsPermutation}
 use Rattle.std.proofs.lemmas.List.{set_past}
 use Rattle.std.proofs.lemmas.List.Sorted.{IsPermutation-refl}

@@ -6,6 +6,6 @@ pub returns-then-count-gt0 : goal.returns-then-count-gt0
 returns-then-count-gt0 g c =
     let xs = c.args.items.now in
     record {
-      shuffled = c.sift-up.ensures.shuffled;
-      heaped = λ o h. c.sift-up.ensures.heaped o (omega arith) (but_last o xs h) (last_over o xs);
+      shuffled = c.sift_up.ensures.shuffled;
+      heaped = λ o h. c.sift_up.ensures.heaped o (omega arith) (but_last o xs h) (last_over o xs);
     }

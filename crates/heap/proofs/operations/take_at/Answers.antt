@@ -1,4 +1,4 @@
-use Rattle.std.proofs.Common.{◌≡◌, ℕ, ◌-◌, ◌≤◌, List, length, take, drop, sym, refl, ap, ◌∙◌, subst, arith}
+use Rattle.std.proofs.Common.{◌≡◌, ℕ, ◌-◌, length, take, sym, ap, subst, arith}
 use Rattle.heap.specs.Heaps.{Heaped}
 use Rattle.heap.proofs.Parts.{but_swapped, out_shuffled, out_last, out_front}
 use Rattle.heap.proofs.operations.take_at.Goals as goal

@@ -1,11 +1,10 @@
-use Rattle.std.proofs.Common.{arith}
-use Rattle.heap.proofs.Parts.{first_least, taken_least, short_heap}
+use Rattle.heap.proofs.Parts.{taken_least, short_heap}
 use Rattle.heap.proofs.operations.take_least.Goals as goal
 
 pub returns : goal.returns
 returns g c =
     let xs = c.args.items.now in
-    let e = c.take-at.ensures in
+    let e = c.take_at.ensures in
     record {
       shuffled = e.shuffled;
       least = λ o d z h. taken_least o xs _ d (λ b. e.last b z) h;

@@ -1,11 +1,11 @@
-use Rattle.std.proofs.Common.{◌≡◌, ◌<◌, length}
+use Rattle.std.proofs.Common.{◌<◌, length}
 use Rattle.std.specs.List.Sorted.{IsPermutation}
 use Rattle.heap.proofs.Moves.{Rising}
 use Rattle.heap.proofs.sifts.sift_up.Given as goal
 
 abbrev pub invariant-loop-place : goal.invariant-loop-place
 invariant-loop-place g l =
-    (l.place < length l.items) × IsPermutation l.initial.items l.items × Rising (λ x' y' r'. r' ≡ g.T.Ord.cmp x' y') l.initial.items l.at l.items l.place
+    (l.place < length l.items) × IsPermutation l.initial.items l.items × Rising g.T.Ord.cmp l.initial.items l.at l.items l.place
 
 abbrev pub decreases-loop-place : goal.decreases-loop-place
 decreases-loop-place g l = l.place
