@@ -10,5 +10,5 @@ whole : (r : Option (Bor (List ℕ))) (bs : List ℕ) → length bs ≡ 512 → 
 whole None bs e h = absurd (omega arith)
 whole (Some y) bs e h = (h.same ∙ take_all 512 bs (omega arith), eq-eqb (length bs) 512 e)
 
-pub returns-then-bytes-eq-PAGE-BYTES : goal.returns-then-bytes-eq-PAGE-BYTES
-returns-then-bytes-eq-PAGE-BYTES c = whole c.first-chunk.result c.args.bytes.now c.if-bytes-eq-PAGE-BYTES.true c.first-chunk.ensures.cases
+pub returns-then-bytes-eq-PAGE_BYTES : goal.returns-then-bytes-eq-PAGE_BYTES
+returns-then-bytes-eq-PAGE_BYTES c = whole c.first_chunk.result c.args.bytes.now c.if-bytes-eq-PAGE_BYTES.true c.first_chunk.ensures.cases

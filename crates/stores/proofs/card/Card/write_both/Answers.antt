@@ -14,9 +14,9 @@ returns-in-Done c =
       node_stays = c.write-in-Done.ensures.node_stays ∙ c.write.ensures.node_stays;
     }
 
-pub returns-in-default : goal.returns-in-default
-returns-in-default c =
-    let off = ends_if_not_done (medium c.args.self.now) c.args.row c.args.first (λ e. c.in-default.not-Done (c.write.ensures.answer ∙ e)) in
+pub returns-in_default : goal.returns-in_default
+returns-in_default c =
+    let off = ends_if_not_done (medium c.args.self.now) c.args.row c.args.first (λ e. c.in_default.not-Done (c.write.ensures.answer ∙ e)) in
     record {
       answer = c.write.ensures.answer ∙ sym (cond-false _ _ _ off);
       card = c.write.ensures.card ∙ sym (cond-false _ _ _ off);
