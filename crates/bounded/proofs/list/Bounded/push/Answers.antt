@@ -1,4 +1,4 @@
-use Rattle.std.proofs.Common.{◌≡◌, ◌<◌, ◌≤◌, ltb, length, take, sym, arith, rules, lt-ltb}
+use Rattle.std.proofs.Common.{◌<◌, length, sym, arith, lt-ltb}
 use Rattle.std.proofs.lemmas.List.{take_more_set, length-take-le}
 use Rattle.bounded.proofs.list.Bounded.push.Goals as goal
 
