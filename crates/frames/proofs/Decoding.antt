@@ -1,5 +1,5 @@
 -- From a frame's body to its call and back.
-use Rattle.std.proofs.Common.{◌≡◌, ℕ, true, eqb, List, [], ◌∷◌, length, Some, None, Ok, Err, sym, refl, ap, ◌∙◌}
+use Rattle.std.proofs.Common.{◌≡◌, ℕ, true, eqb, List, [], length, Some, Ok, Err, sym, refl, ap, ◌∙◌}
 use Rattle.std.proofs.lemmas.List.{nil_from_length}
 use Rattle.std.proofs.lemmas.Bool.{cond-true, eqb-true}
 use Rattle.std.specs.Option.{option_map}
@@ -35,7 +35,7 @@ Suits f = fits (frame_kind f) (length (frame_body f)) ≡ true
 
 -- a call with its body, at a frame that is known to be g
 pub decodes : (f g : Frame) (c : Call) → f ≡ g → Suits f → c ≡ call_of (frame_kind g) (frame_body g) → body_of c ≡ Some (frame_body g) → Decodes f c
-decodes f g c is suits is_call is-bytes = record {
+decodes f g c is suits is_call is_bytes = record {
   forth =
       let e = cond-true (fits (frame_kind f) (length (frame_body f))) (Ok (call_of (frame_kind f) (frame_body f))) (Err WrongLength) suits in
       let h : c ≡ call_of (frame_kind f) (frame_body f) = cc in
@@ -48,7 +48,7 @@ decodes f g c is suits is_call is-bytes = record {
 
 -- the same where the body is empty
 pub decodes_empty : (f g : Frame) (c : Call) → f ≡ g → Suits f → ((n : ℕ) → fits (frame_kind g) n ≡ eqb n 0) → c ≡ call_of (frame_kind g) (frame_body g) → body_of c ≡ Some [] → Decodes f c
-decodes_empty f g c is suits none is_call is-bytes =
+decodes_empty f g c is suits none is_call is_bytes =
     let e : eqb (length (frame_body g)) 0 ≡ true = cc (none (length (frame_body g))) in
     let n = nil_from_length (frame_body g) (eqb-true (length (frame_body g)) 0 e) in
-    decodes f g c is suits is_call (is-bytes ∙ ap (λ x. Some x) (sym n))
+    decodes f g c is suits is_call (is_bytes ∙ ap (λ x. Some x) (sym n))

@@ -1,6 +1,6 @@
 -- A frame that was written is read back, wherever it stands.
-use Rattle.std.proofs.Common.{◌≡◌, ℕ, zero, suc, ◌+◌, ◌*◌, ◌/◌, ◌%◌, ◌<◌, ◌≤◌, Bool, true, false, cond, eqb, ltb, leb, List, [], ◌∷◌, ◌++◌, length, take, drop, IfOk, Some, None, Ok, Err, Option, Result, sym, refl, ap, ◌∙◌, subst, arith}
-use Rattle.std.proofs.lemmas.List.{append_assoc, drop_at, length-append, take_at}
+use Rattle.std.proofs.Common.{◌≡◌, ℕ, ◌<◌, ◌≤◌, Bool, true, false, cond, ltb, leb, List, ◌++◌, length, take, drop, IfOk, Some, None, Ok, Err, Result, sym, refl, ap, ◌∙◌, subst, arith}
+use Rattle.std.proofs.lemmas.List.{drop_at, length-append, take_at}
 use Rattle.std.proofs.lemmas.Bool.{cond-true, cond-false, eqb-true, lt-leb, le-ltb}
 use Rattle.std.specs.Option.{option_map}
 use Rattle.model.specs.declared.answer.Fault.{Fault}
@@ -12,7 +12,7 @@ use Rattle.model.specs.Bytes.{u16_at, u16_bytes}
 use Rattle.frames.specs.Calls.{body_of, call_of, frame_of, kind_for}
 use Rattle.frames.specs.Frames.{framed}
 use Rattle.frames.specs.Kinds.{fits, kind_number, kind_of}
-use Rattle.frames.specs.Reading.{Standing, after_header, call_at, called, next_place, place_after, stands_at}
+use Rattle.frames.specs.Reading.{after_header, called, place_after, stands_at}
 use Rattle.frames.specs.Writing.{ReadBack, buffer_after, write_answer}
 
 -- what is known of each kind: its number is read back, and no body is long
@@ -94,10 +94,10 @@ module _ (call known : Call) (is : call ≡ known) (buffer after : List ℕ) (r 
   pub written : (frame body : List ℕ) → body_of known ≡ Some body → fits (kind_for known) (length body) ≡ true
       → frame_of known ≡ Some frame → call_of (kind_for known) (drop 4 frame) ≡ known
       → r ≡ write_answer (Some frame) (length buffer) → after ≡ buffer_after (Some frame) buffer → Written call buffer after r
-  written frame body is_IsBody suits is-frame back answer holds =
-      let e : frame_of call ≡ Some frame = ap frame_of is ∙ is-frame in
-      let b : frame_of known ≡ Some (framed (kind_for known) body) = ap (λ o. option_map (framed (kind_for known)) o) is_IsBody in
-      let f : frame ≡ framed (kind_for known) body = some_same frame (framed (kind_for known) body) (sym is-frame ∙ b) in
+  written frame body is_body suits is_frame back answer holds =
+      let e : frame_of call ≡ Some frame = ap frame_of is ∙ is_frame in
+      let b : frame_of known ≡ Some (framed (kind_for known) body) = ap (λ o. option_map (framed (kind_for known)) o) is_body in
+      let f : frame ≡ framed (kind_for known) body = some_same frame (framed (kind_for known) body) (sym is_frame ∙ b) in
       let h : ReadBack call frame = read_back_as call frame (kind_for known) body f (back ∙ sym is) suits in
       record {
         answer = answer ∙ ap (λ o. write_answer o (length buffer)) (sym e);

@@ -1,14 +1,13 @@
 -- What stands at a place, known so far as the reader has come.
-use Rattle.std.proofs.Common.{◌≡◌, ℕ, suc, ◌+◌, ◌-◌, ◌*◌, ◌<◌, ◌≤◌, true, false, cond, ltb, leb, List, [], ◌∷◌, ◌++◌, length, get_or, take, drop, Some, None, Ok, Err, Option, sym, refl, ap, ◌∙◌, arith}
+use Rattle.std.proofs.Common.{◌≡◌, ℕ, suc, ◌+◌, ◌-◌, ◌<◌, ◌≤◌, true, false, ltb, leb, List, [], ◌∷◌, ◌++◌, length, get_or, take, drop, Some, None, Ok, Err, sym, ap, ◌∙◌, arith}
 use Rattle.std.proofs.lemmas.List.{get_or-take, take_rest, length-drop}
 use Rattle.std.proofs.lemmas.Bool.{cond-true, cond-false, lt-leb, lt-ltb, le-ltb}
-use Rattle.model.specs.declared.answer.Fault.{Fault}
-use Rattle.model.specs.declared.answer.Fault.TheVariants.{HeaderShort, UnknownKind, WrongLength, BodyShort}
+use Rattle.model.specs.declared.answer.Fault.TheVariants.{HeaderShort, WrongLength, BodyShort}
 use Rattle.frames.specs.declared.kind.Kind.{Kind}
 use Rattle.model.specs.Bytes.{u16_at, u16_bytes}
 use Rattle.frames.specs.Kinds.{fits, kind_number, kind_of}
 use Rattle.frames.specs.Frames.{framed}
-use Rattle.frames.specs.Reading.{Standing, after_header, stands_at}
+use Rattle.frames.specs.Reading.{after_header, stands_at}
 
 -- a number is read from the first bytes alone
 u16_at-take : (m : ℕ) (bs : List ℕ) (i : ℕ) → i + 1 < m → u16_at (take m bs) i ≡ u16_at bs i
@@ -64,7 +63,7 @@ module _ (s : List ℕ) (i : ℕ) (rest : List ℕ) (inside : i < length s) (is 
         ∙ cond-true (ltb (length after) n) (Some (Err BodyShort)) _ (lt-ltb (length after) n h))
 
     pub stands : (k : Kind) (body : List ℕ) → k ≡ kind → body ≡ take n after → fits kind n ≡ true → n ≤ length after → Some (Ok (k, body)) ≡ stands_at s i
-    stands k body is-kind is_IsBody e h =
+    stands k body is_kind is_body e h =
         let p : stands_at s i ≡ Some (Ok (kind, take n after)) =
         judged ∙ cond-true (fits kind n) _ (Some (Err WrongLength)) e
         ∙ cond-false (ltb (length after) n) (Some (Err BodyShort)) (Some (Ok (kind, take n after))) (le-ltb (length after) n h) in
@@ -75,7 +74,7 @@ module _ (s : List ℕ) (i : ℕ) (rest : List ℕ) (inside : i < length s) (is 
       → (k kind : Kind) (m n l : ℕ) (body : List ℕ) → kind_number kind ≡ m → k ≡ kind → n ≡ l → body ≡ take n after → length body ≡ n
       → u16_bytes m ≡ get_or header 2 0 ∷ get_or header (2 + 1) 0 ∷ [] → u16_bytes l ≡ get_or header 0 0 ∷ get_or header (0 + 1) 0 ∷ []
       → take (4 + length body) (drop i s) ≡ framed k body
-  begins header after front back whole k kind m n l body number is-kind same is_IsBody size second first =
+  begins header after front back whole k kind m n l body number is_kind same is_body size second first =
       let e = rest_is in
       let f = first_four rest n (omega arith) in
       let a = get_or-take 4 rest 0 0 (omega arith) in

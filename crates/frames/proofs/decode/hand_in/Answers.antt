@@ -1,4 +1,3 @@
-use Rattle.std.proofs.Common.{◌≡◌}
 use Rattle.frames.proofs.Spelt.{spelt_out}
 use Rattle.frames.proofs.decode.hand_in.Goals as goal
 

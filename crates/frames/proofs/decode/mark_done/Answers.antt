@@ -1,4 +1,3 @@
-use Rattle.std.proofs.Common.{◌≡◌}
 use Rattle.frames.proofs.Spelt.{spelt_out}
 use Rattle.frames.proofs.decode.mark_done.Goals as goal
 

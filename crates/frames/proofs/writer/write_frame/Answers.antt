@@ -1,12 +1,12 @@
 use Rattle.std.proofs.Common.{refl, ap, ◌∙◌}
 use Rattle.model.specs.declared.call.Call.TheVariants.{Restart}
-use Rattle.frames.proofs.ReadingBack.{Written, written}
+use Rattle.frames.proofs.ReadingBack.{written}
 use Rattle.frames.proofs.writer.write_frame.Goals as goal
 
 pub returns-in-HandIn : goal.returns-in-HandIn
 returns-in-HandIn c =
     let p = written c.args.call _ c.in-HandIn.is c.args.buffer.now c.put.new.buffer c.put.result
-    _ _ refl refl c.hand-in.ensures.frame c.hand-in.ensures.back c.put.ensures.answer c.put.ensures.after in
+    _ _ refl refl c.hand_in.ensures.frame c.hand_in.ensures.back c.put.ensures.answer c.put.ensures.after in
     record { answer = p.answer; after = p.holds; read_back = p.back }
 
 pub returns-in-Advance : goal.returns-in-Advance
@@ -66,5 +66,5 @@ returns-in-Show c =
 pub returns-in-MarkDone : goal.returns-in-MarkDone
 returns-in-MarkDone c =
     let p = written c.args.call _ c.in-MarkDone.is c.args.buffer.now c.put-in-MarkDone.new.buffer c.put-in-MarkDone.result
-    _ _ refl refl c.mark-done.ensures.frame c.mark-done.ensures.back c.put-in-MarkDone.ensures.answer c.put-in-MarkDone.ensures.after in
+    _ _ refl refl c.mark_done.ensures.frame c.mark_done.ensures.back c.put-in-MarkDone.ensures.answer c.put-in-MarkDone.ensures.after in
     record { answer = p.answer; after = p.holds; read_back = p.back }

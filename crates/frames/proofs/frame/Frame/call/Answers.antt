@@ -13,7 +13,7 @@ suits c = let e = c.if-not-fits.ensures in cc
 met : (c : goal.Joined-self) → Decodes c.args.self.now c.match-self.result
 met c =
     elim c.match-self.branch [
-      | in-HandIn w ↦ decodes _ _ _ w.in-HandIn.is (suits c) (w.result-is ∙ w.hand-in.ensures.call) (ap body_of w.result-is ∙ w.hand-in.ensures.back)
+      | in-HandIn w ↦ decodes _ _ _ w.in-HandIn.is (suits c) (w.result-is ∙ w.hand_in.ensures.call) (ap body_of w.result-is ∙ w.hand_in.ensures.back)
       | in-Advance w ↦ decodes _ _ _ w.in-Advance.is (suits c) (w.result-is ∙ w.advance.ensures.call) (ap body_of w.result-is ∙ w.advance.ensures.back)
       | in-Fire w ↦ decodes _ _ _ w.in-Fire.is (suits c) (w.result-is ∙ ap (λ x. call.Fire x) w.only.ensures.value) (ap body_of w.result-is ∙ ap (λ x. Some x) w.only.ensures.back)
       | in-Send w ↦ decodes_empty _ _ _ w.in-Send.is (suits c) (λ n. refl) w.result-is (ap body_of w.result-is)
@@ -23,8 +23,8 @@ met c =
       | in-Pass w ↦ decodes_empty _ _ _ w.in-Pass.is (suits c) (λ n. refl) w.result-is (ap body_of w.result-is)
       | in-Restart w ↦ decodes _ _ _ w.in-Restart.is (suits c) (w.result-is ∙ w.restart.ensures.call) (ap body_of w.result-is ∙ w.restart.ensures.back)
       | in-Show w ↦ decodes_empty _ _ _ w.in-Show.is (suits c) (λ n. refl) w.result-is (ap body_of w.result-is)
-      | in-MarkDone w ↦ decodes _ _ _ w.in-MarkDone.is (suits c) (w.result-is ∙ w.mark-done.ensures.call) (ap body_of w.result-is ∙ w.mark-done.ensures.back)
+      | in-MarkDone w ↦ decodes _ _ _ w.in-MarkDone.is (suits c) (w.result-is ∙ w.mark_done.ensures.call) (ap body_of w.result-is ∙ w.mark_done.ensures.back)
     ]
 
 pub returns : goal.returns
-returns c = record { call = (met c).forth; writes-back = (met c).back }
+returns c = record { call = (met c).forth; writes_back = (met c).back }
