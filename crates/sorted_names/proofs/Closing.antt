@@ -1,5 +1,5 @@
 -- A gap that is closed place by place, from the front.
-use Rattle.std.proofs.Common.{◌≡◌, ℕ, ◌+◌, ◌-◌, ◌<◌, ◌≤◌, List, [], ◌∷◌, ◌++◌, length, get_or, take, drop, set, sym, refl, ap, ◌∙◌, subst, append_assoc, arith, length-drop, length-set}
+use Rattle.std.proofs.Common.{◌≡◌, ℕ, ◌+◌, ◌-◌, ◌<◌, ◌≤◌, List, [], ◌∷◌, ◌++◌, length, get_or, take, drop, set, sym, refl, ap, ◌∙◌, append_assoc, arith, length-drop, length-set}
 use Rattle.std.proofs.lemmas.List.{append-nil, take_more_set, take_more, drop-set-lt, drop-drop, get_or-drop, take_all}
 
 -- the first places have what stood below the gap, and above it up to k; from k on nothing has moved

@@ -1,5 +1,5 @@
 -- A stop's names below a floor stand side by side, between two places.
-use Rattle.std.proofs.Common.{◌≡◌, ℕ, ◌+◌, ◌-◌, ◌<◌, ◌≤◌, Bool, true, false, not, ◌&&◌, ◌||◌, eqb, ltb, ◌⊎◌, List, ◌++◌, length, get_or, take, drop, sym, refl, ap, ◌∙◌, subst, inl, inr, arith, length-drop}
+use Rattle.std.proofs.Common.{◌≡◌, ℕ, ◌+◌, ◌-◌, ◌<◌, ◌≤◌, Bool, true, false, not, ◌&&◌, ◌||◌, List, ◌++◌, length, get_or, take, drop, sym, refl, ap, ◌∙◌, inl, inr, arith, length-drop}
 use mathlib.Core.Path.{fun_ext}
 use Rattle.std.specs.List.{between}
 use Rattle.std.proofs.lemmas.List.{get_or-take, get_or-drop, length-take}
@@ -11,7 +11,7 @@ use Rattle.names.specs.declared.taken.Taken.{Taken}
 use Rattle.names.specs.Held.{listed}
 use Rattle.names.specs.Changes.{is_below, without_below}
 use Rattle.names.proofs.Listing.{taken, listed_append, all_pass, none_pass}
-use Rattle.sorted_names.specs.Order.{first, before, first_at, Splits}
+use Rattle.sorted_names.specs.Order.{before, first_at, Splits}
 
 -- not one of the stop's names below the floor
 abbrev keep : ℕ → ℕ → Taken → Bool

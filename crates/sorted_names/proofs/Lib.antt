@@ -1,2 +1,4 @@
+pub mod Ordered
+pub mod Climbing
 pub mod Closing
 pub mod Dropping

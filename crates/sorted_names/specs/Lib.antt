@@ -1,4 +1,3 @@
 pub mod Order
 pub mod Table
-pub mod Climbing
-pub mod Ordered
+pub mod Apart

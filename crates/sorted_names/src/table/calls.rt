@@ -1,10 +1,10 @@
 // The calls of the sorted table.
 ghost use Rattle.std.specs.Prelude.{◌≡◌, IfOk, refl};
-ghost use Rattle.std.proofs.Common.{sym, rules, arith};
+ghost use Rattle.std.proofs.Common.{sym, rules};
 ghost use Rattle.names.specs.Changes.{Cleared};
 ghost use Rattle.sorted_names.specs.Order.{first_at};
 ghost use Rattle.sorted_names.specs.Table.{sorted_fit, sorted_meaning};
-ghost use Rattle.sorted_names.specs.Climbing.{climbs_apart};
+ghost use Rattle.sorted_names.specs.Apart.{climbs_apart};
 
 use super::SortedNames;
 use crate::order::{close_gap, find, place_of};
@@ -51,7 +51,7 @@ impl NameSet for SortedNames {
           same = λ s n. refl;
         } };
 
-    ghost bounded = { first_of (Prim.search rules, Prim.grind (arith, Self.row.coded.inj)) };
+    ghost bounded = { Prim.search rules };
 
     fn has(&mut self, stop: u16, name: Name) -> bool {
         find(self.items.as_slice(), stop, name).is_ok()

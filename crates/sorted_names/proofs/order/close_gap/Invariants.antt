@@ -1,4 +1,4 @@
-use Rattle.std.proofs.Common.{◌≡◌, ◌+◌, ◌-◌, ◌<◌, ◌≤◌, ◌++◌, take, drop, vec_items, vec_len, vec_capacity}
+use Rattle.std.proofs.Common.{◌≡◌, vec_items, vec_len, vec_capacity}
 use Rattle.sorted_names.proofs.Closing.{Closing}
 use Rattle.sorted_names.proofs.order.close_gap.Given as goal
 

@@ -1,11 +1,11 @@
 -- The order of the table is total, and what that says of lists that climb.
-use Rattle.std.specs.Prelude.{◌≡◌, ℕ, ◌+◌, ◌<◌, ◌≤◌, Bool, true, false, cond, ◌⊎◌, List, length, slice_index_or, refl}
-use Rattle.std.proofs.Common.{sym, ap, subst, ◌∙◌, inl, inr, arith}
+use Rattle.std.specs.Prelude.{◌≡◌, ℕ, ◌+◌, ◌<◌, ◌≤◌, Bool, true, false, List, length, slice_index_or}
+use Rattle.std.proofs.Common.{sym, subst, inl, inr, arith}
 use Rattle.std.proofs.lemmas.List.{get_or_default}
 use Rattle.std.proofs.lemmas.Bool.{cases_Bool, both_ways, cases_eq}
 use Rattle.std.proofs.lemmas.Bool.Decides.{nat_tests}
 use Rattle.names.specs.declared.taken.Taken.{Taken}
-use Rattle.sorted_names.specs.Order.{first, before, Climbs, Splits}
+use Rattle.sorted_names.specs.Order.{first, before, Climbs}
 
 first_trans : (x y z : ℕ) (p q r : Bool) → (p ≡ true → q ≡ true → r ≡ true) → first x y p ≡ true → first y z q ≡ true → first x z r ≡ true
 first_trans x y z p q r f a b = grind (arith, nat_tests)
@@ -13,19 +13,11 @@ first_trans x y z p q r f a b = grind (arith, nat_tests)
 first_equal : (x y : ℕ) (p q : Bool) → first x y p ≡ false → first y x q ≡ false → (x ≡ y) × (p ≡ false) × (q ≡ false)
 first_equal x y p q a b = (grind (arith, nat_tests), grind (arith, nat_tests), grind (arith, nat_tests))
 
-first_self : (x : ℕ) (p : Bool) → p ≡ false → first x x p ≡ false
-first_self x p e = grind (arith, nat_tests)
-
 pub before_trans : (p q r : Taken) → before p q ≡ true → before q r ≡ true → before p r ≡ true
 before_trans p q r =
     first_trans p.stop q.stop r.stop _ _ _
     (first_trans p.name.time q.name.time r.name.time _ _ _
     (first_trans p.name.serial q.name.serial r.name.serial _ _ _ (λ a b. grind (arith, nat_tests))))
-
-pub before_self : (p : Taken) → before p p ≡ false
-before_self p =
-    first_self p.stop _
-    (first_self p.name.time _ (first_self p.name.serial _ (grind (arith, nat_tests))))
 
 -- of two names one stands before the other, or they are the same
 pub before_total : (p q : Taken) → before p q ≡ false → before q p ≡ false → p ≡ q

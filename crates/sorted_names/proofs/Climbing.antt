@@ -1,21 +1,21 @@
 -- Lists that climb: what is found in one, what goes in, and what is taken out.
-use Rattle.std.specs.Prelude.{◌≡◌, ℕ, suc, ◌+◌, ◌-◌, ◌<◌, ◌≤◌, Bool, true, false, cond, not, ◌&&◌, ◌||◌, ◌⊎◌, List, [], ◌∷◌, ◌++◌, length, get_or, take, drop, ◌≢◌, slice_index_or, refl}
+use Rattle.std.specs.Prelude.{◌≡◌, ℕ, ◌+◌, ◌-◌, ◌<◌, ◌≤◌, Bool, true, false, ◌||◌, ◌⊎◌, List, ◌∷◌, ◌++◌, length, get_or, take, drop, ◌≢◌, slice_index_or, refl}
 use Rattle.std.proofs.Common.{sym, ap, subst, ◌∙◌, inl, inr, arith, length-drop}
 use Rattle.std.proofs.Math.Path.{fun_ext}
-use Rattle.std.specs.List.{insert, between}
-use Rattle.std.proofs.lemmas.List.{get_or_default, get_or-take, get_or-drop, get_or_append_left, get_or-append_right, take-append-drop, length-take-le, length-append}
-use Rattle.std.proofs.lemmas.List.Edits.{split_between, length-insert, get_or-insert_below, get_or-insert_at, get_or-insert_above}
+use Rattle.std.specs.List.{insert}
+use Rattle.std.proofs.lemmas.List.{get_or-take, get_or-drop, get_or_append_left, get_or-append_right, take-append-drop, length-take-le, length-append}
+use Rattle.std.proofs.lemmas.List.Edits.{length-insert, get_or-insert_below, get_or-insert_at, get_or-insert_above}
 use Rattle.std.proofs.lemmas.Bool.{cases_Bool, both_ways, cases_eq, cases_lt}
-use Rattle.std.proofs.lemmas.Bool.Decides.{nat_tests}
 use Rattle.model.specs.declared.answer.Answer.TheVariants.{Done}
 use Rattle.model.specs.declared.record.Name.{Name}
 use Rattle.names.specs.declared.taken.Taken.{Taken}
-use Rattle.names.specs.Held.{Apart, same_taken, listed, most_taken}
+use Rattle.names.specs.Held.{same_taken, listed, most_taken}
 use Rattle.names.specs.Changes.{with_name, Added}
 use Rattle.names.proofs.Adding.{added_done}
 use Rattle.names.proofs.Listing.{taken, same_is, is_same, listed_append, listed_at, at_listed}
-use Rattle.sorted_names.specs.Order.{first, before, Climbs, Splits, Absent}
-use Rattle.sorted_names.specs.Ordered.{before_self, before_total, before_trans}
+use Rattle.sorted_names.specs.Order.{before, Climbs, Splits, Absent}
+use Rattle.sorted_names.specs.Apart.{before_self}
+use Rattle.sorted_names.proofs.Ordered.{before_total}
 
 -- what is the same as the name at the place is found
 pub found : (xs : List Taken) (i s : ℕ) (n : Name) (d : Taken) → i < length xs → same_taken (slice_index_or xs i d) s n ≡ true → listed xs s n ≡ true
@@ -47,21 +47,6 @@ not_found xs i s n up w other = record { none = none; splits = w }
                           (subst (λ p. before (slice_index_or xs i q) p ≡ true) (at.2 q) (up i k q (omega arith) at.1))
                     ]
               ])
-          | inr e ↦ e
-        ]
-
--- what climbs lists nothing twice
-pub climbs_apart : (xs : List Taken) → Climbs xs → Apart xs
-climbs_apart [] up = tt
-climbs_apart (x ∷ xs) up = (alone, climbs_apart xs (λ i j d l h. up (suc i) (suc j) d (omega arith) (omega arith)))
-  where
-    alone : listed xs x.stop x.name ≡ false
-    alone =
-        elim (cases_Bool (listed xs x.stop x.name)) [
-          | inl e ↦
-              let at = listed_at xs x.stop x.name e in
-              absurd (both_ways (before x x) (before_self x)
-              (subst (λ p. before x p ≡ true) (at.2 x) (up 0 (suc at.0) x (omega arith) (omega (arith, at.1)))))
           | inr e ↦ e
         ]
 
