@@ -1,13 +1,12 @@
 -- For each minute, what was emitted for it and what is open in it add up to what was taken in it.
-use Rattle.std.proofs.Common.{◌≡◌, ℕ, zero, suc, ◌+◌, ◌-◌, ◌*◌, ◌/◌, ◌%◌, ◌<◌, ◌≤◌, min, max, Bool, true, false, cond, ◌&&◌, eqb, ltb, leb, ◌⊎◌, List, [], ◌∷◌, length, get_or, set, Some, None, Option, sym, refl, ap, ◌∙◌, subst, inl, inr, arith, get_or-set_other, get_or-set_same}
-use Rattle.std.proofs.lemmas.Bool.Decides.{nat_tests, leb_tells, eqb_tells}
-use Rattle.model.specs.Computation.{Takes, Fires, StateBytes, zero_state}
+use Rattle.std.proofs.Common.{◌≡◌, ℕ, suc, ◌+◌, ◌*◌, ◌/◌, ◌%◌, ◌<◌, ◌≤◌, Bool, cond, ◌&&◌, eqb, ltb, List, [], ◌∷◌, length, get_or, set, Some, None, Option, sym, refl, ap, ◌∙◌, inl, inr, arith, get_or-set_other, get_or-set_same}
+use Rattle.std.proofs.lemmas.Bool.Decides.{leb_tells, eqb_tells}
+use Rattle.model.specs.Computation.{Takes, Fires, zero_state}
 use Rattle.counter.specs.Counter.{counter, CounterSound, sum_of, earliest, earliest_from, Earliest, reached, raised, counter_take, closed}
 use Rattle.counter.specs.Minutes.{Event, Took, Fired, event, May, Happens, leaves, takes_in, emits_for, taken_in, emitted_for, open_in, MinutesAddUp}
 use Rattle.counter.specs.declared.state.CounterState.{CounterState}
 use Rattle.counter.specs.Opened.{first_open}
-use Rattle.counter.specs.Steps.{nothing, same_place, same_minute, opened, sum_taken, sum_kept, raised_minute, raised_rises, closes, taken_sound}
-use Rattle.counter.specs.Laws.{counter_lawful}
+use Rattle.counter.specs.Steps.{nothing, same_place, same_minute, opened, sum_taken, sum_kept, raised_rises, closes}
 
 -- a minute is one of the four open ones or not
 pub data Place (s : CounterState) (m : ℕ) : Type 0 where

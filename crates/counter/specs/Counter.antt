@@ -1,6 +1,6 @@
 -- The counter adds up what is asked for in each minute. Four minutes are open; one closes by being fired, or passes empty.
 -- Assumes nothing.
-use Rattle.std.specs.Prelude.{◌≡◌, ℕ, zero, suc, ◌+◌, ◌*◌, ◌/◌, ◌%◌, ◌<◌, ◌≤◌, min, max, Bool, cond, List, [], ◌∷◌, ◌++◌, length, replicate, Some, None, sum, Option, nat_le, nat_lt, slice_index, slice_set}
+use Rattle.std.specs.Prelude.{◌≡◌, ℕ, zero, suc, ◌+◌, ◌*◌, ◌/◌, ◌%◌, ◌<◌, ◌≤◌, min, max, cond, List, [], ◌∷◌, ◌++◌, length, replicate, Some, None, sum, Option, nat_le, nat_lt, slice_index, slice_set}
 use Rattle.model.specs.Computation.{Computation}
 use Rattle.model.specs.Limits.{last_time, most_amount}
 use Rattle.model.specs.Bytes.{u32_at, u16_at, u32_bytes, u16_bytes}

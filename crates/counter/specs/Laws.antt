@@ -1,9 +1,8 @@
 -- The laws of a computation, and the law of weight, for the counter.
-use Rattle.std.specs.Prelude.{◌≡◌, ℕ, ◌≤◌, Some, None, refl}
+use Rattle.std.specs.Prelude.{◌≡◌, ℕ, refl}
 use Rattle.std.proofs.Common.{arith}
 use Rattle.model.specs.Computation.{Lawful, Conserves}
 use Rattle.counter.specs.Counter.{counter, CounterSound, earliest, held}
-use Rattle.counter.specs.declared.state.CounterState.{CounterState}
 use Rattle.counter.specs.Steps.{raised_rises, raised_bound, taken_sound, taken_upto, taken_held, closes, fired_due, fired_emits, fired_held}
 use Rattle.counter.specs.Stored.{loaded_sound, stored_bytes, back}
 

@@ -1,14 +1,14 @@
 -- What a take and a fire of the counter do to its mark, its sums and its earliest minute.
-use Rattle.std.specs.Prelude.{◌≡◌, ℕ, zero, suc, ◌+◌, ◌-◌, ◌*◌, ◌/◌, ◌%◌, ◌<◌, ◌≤◌, min, max, Bool, true, false, cond, ◌⊎◌, List, [], ◌∷◌, ◌++◌, length, Some, None, Option, MatchOption, ◌≢◌, slice_index, slice_set, refl}
+use Rattle.std.specs.Prelude.{◌≡◌, ℕ, ◌+◌, ◌-◌, ◌*◌, ◌/◌, ◌%◌, ◌<◌, ◌≤◌, ◌⊎◌, List, length, Some, None, Option, ◌≢◌, slice_index, slice_set, refl}
 use Rattle.std.proofs.Common.{sym, ap, subst, ◌∙◌, inl, inr, arith, length-set, get_or-set_same, get_or-set_other}
 use Rattle.std.proofs.lemmas.Bool.Decides.{nat_tests, leb_tells, eqb_tells}
 use Rattle.std.proofs.lemmas.List.Sums.{sum_by-set}
 use Rattle.model.specs.Limits.{last_time, most_amount}
 use Rattle.model.specs.Computation.{Takes, Fires, Emits, Upto, emitted}
 use Rattle.model.specs.declared.answer.Verdict.TheVariants.{Fine}
-use Rattle.counter.specs.Counter.{counter, CounterSound, sum_of, earliest, Earliest, Empty, reached, raised, end, closed, counter_verdict, counter_take, held}
+use Rattle.counter.specs.Counter.{counter, CounterSound, sum_of, earliest, Earliest, reached, raised, end, closed, counter_verdict, counter_take, held}
 use Rattle.counter.specs.declared.state.CounterState.{CounterState}
-use Rattle.counter.specs.Opened.{first_open, none_open, searched}
+use Rattle.counter.specs.Opened.{first_open, none_open}
 
 -- the mark that a take begins at: no lower than the mark, no later than watermark or mark, the start of a minute, and
 -- not past a minute with a sum

@@ -1,10 +1,10 @@
-use Rattle.std.proofs.Common.{◌≡◌, ℕ, suc, ◌+◌, ◌-◌, ◌/◌, ◌<◌, Some, None, sym, ap, ◌∙◌, arith}
+use Rattle.std.proofs.Common.{◌≡◌, suc, ◌+◌, ◌-◌, ◌/◌, ◌<◌, Some, None, sym, ap, ◌∙◌, arith}
 use Rattle.counter.specs.Counter.{earliest, earliest_from, sum_of}
 use Rattle.counter.specs.Opened.{here, later, nowhere, first_open, none_open}
 use Rattle.counter.proofs.minutes.earliest_minute.Goals as goal
 
-pub returns-then-sum-of-gt0 : goal.returns-then-sum-of-gt0
-returns-then-sum-of-gt0 c =
+pub returns-then-sum_of-gt0 : goal.returns-then-sum_of-gt0
+returns-then-sum_of-gt0 c =
     let s = c.args.state.now in
     let m = c.loop-minute.minute in
     let left : s.mark / 60 + 4 - m ≡ suc (s.mark / 60 + 4 - (m + 1)) = omega arith in
