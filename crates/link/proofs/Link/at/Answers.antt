@@ -6,11 +6,11 @@ use Rattle.link.proofs.Link.at.Goals as goal
 
 pub returns-then-place-all : goal.returns-then-place-all
 returns-then-place-all c =
-    let past : length c.as-slice-all.result.now ≤ c.args.place = omega arith in
-    sym (ap (λ ms. slice_get ms c.args.place) (sym c.as-slice-all.ensures.value) ∙ slice_get_past c.as-slice-all.result.now c.args.place past)
+    let past : length c.as_slice-all.result.now ≤ c.args.place = omega arith in
+    sym (ap (λ ms. slice_get ms c.args.place) (sym c.as_slice-all.ensures.value) ∙ slice_get_past c.as_slice-all.result.now c.args.place past)
 
 pub returns : goal.returns
 returns c =
-    let all = c.as-slice-all.result.now in
+    let all = c.as_slice-all.result.now in
     let there : c.from-place.result < length all = omega arith in
-    sym (slice_get-get_or all c.from-place.result _ there) ∙ ap (λ i. slice_get all i) c.from-place.ensures ∙ ap (λ ms. slice_get ms c.args.place) c.as-slice-all.ensures.value
+    sym (slice_get-get_or all c.from-place.result _ there) ∙ ap (λ i. slice_get all i) c.from-place.ensures ∙ ap (λ ms. slice_get ms c.args.place) c.as_slice-all.ensures.value

@@ -18,10 +18,10 @@ loop-next-preserved c =
     let same = c.loop-next.invariant.0 in
     let had = c.in-Some.ensures in
     let inside : place < length script = omega (arith, had.forward.0, had.forward.1, ap length same) in
-    let pushed = c.in-ok-push.ensures.items in (
+    let pushed = c.in_ok-push.ensures.items in (
       had.script ∙ same,
-      subst (λ (cs : List Call). SoFar script (place_of c.next-call.new.self) cs) (sym pushed)
-          (one_call script place (vec_items c.loop-next.calls) c.loop-next.invariant.1 (place_of c.next-call.new.self) c.in-Ok.event.call inside
+      subst (λ (cs : List Call). SoFar script (place_of c.next_call.new.self) cs) (sym pushed)
+          (one_call script place (vec_items c.loop-next.calls) c.loop-next.invariant.1 (place_of c.next_call.new.self) c.in-Ok.event.call inside
           (ap (λ s. call_at s place) (sym same) ∙ sym had.call ∙ ap (λ x. handed_call (Some x)) c.in-Ok.is)
           (had.place ∙ ap (λ s. next_place s place) same) had.forward.0),
     )
@@ -43,5 +43,5 @@ returns-in-Err c =
 pub returns : goal.returns
 returns c =
     let place = place_of c.loop-next.reader in
-    let whole = ends c.args.script.now place (vec_items c.loop-next.calls) c.loop-next.invariant.1 (ap (λ s. call_at s place) (sym c.loop-next.invariant.0) ∙ sym c.in-default.ensures.call) in
+    let whole = ends c.args.script.now place (vec_items c.loop-next.calls) c.loop-next.invariant.1 (ap (λ s. call_at s place) (sym c.loop-next.invariant.0) ∙ sym c.in_default.ensures.call) in
     record { calls = whole.calls_are; fault = whole.fault_is }

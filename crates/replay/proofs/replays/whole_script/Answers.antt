@@ -6,14 +6,14 @@ use Rattle.replay.proofs.replays.whole_script.Goals as goal
 
 pub returns : goal.returns
 returns c =
-    let read = c.in-ok-script.ensures in
+    let read = c.in_ok-script.ensures in
     let calls = calls_in c.args.script.now in
     record {
       calls =
-          c.in-ok-push-2.ensures.items
-          ∙ ap (λ (cs : List Call). cs ++ (c.power-on-2.result ∷ [])) (c.in-ok-push.ensures.items ∙ ap (λ (cs : List Call). cs ++ (c.power-on.result ∷ [])) read.calls)
-          ∙ ap (λ (call : Call). (calls ++ (c.power-on.result ∷ [])) ++ (call ∷ [])) c.power-on-2.ensures
-          ∙ ap (λ (call : Call). (calls ++ (call ∷ [])) ++ (power_on 1 ∷ [])) c.power-on.ensures
+          c.in_ok-push-2.ensures.items
+          ∙ ap (λ (cs : List Call). cs ++ (c.power_on-2.result ∷ [])) (c.in_ok-push.ensures.items ∙ ap (λ (cs : List Call). cs ++ (c.power_on.result ∷ [])) read.calls)
+          ∙ ap (λ (call : Call). (calls ++ (c.power_on.result ∷ [])) ++ (call ∷ [])) c.power_on-2.ensures
+          ∙ ap (λ (call : Call). (calls ++ (call ∷ [])) ++ (power_on 1 ∷ [])) c.power_on.ensures
           ∙ append_assoc calls (power_on 0 ∷ []) (power_on 1 ∷ []);
       fault = read.fault;
     }

@@ -11,14 +11,14 @@ use Rattle.replay.proofs.stop_lines.stop_lines.Goals as goal
 pub loop-stop-init : goal.loop-stop-init
 loop-stop-init g c = (λ p shows. shows, λ p shows. c.new-text.ensures.bytes ∙ sym (none_below _))
 
-pub returns-then-is-err : goal.returns-then-is-err
-returns-then-is-err g c =
-    record { text = tt; shows = λ p shows. c.one-stop.ensures.shows p (c.loop-stop.invariant.0 p shows); undamaged = λ e. absurd (not_damaged e) }
+pub returns-then-is_err : goal.returns-then-is_err
+returns-then-is_err g c =
+    record { text = tt; shows = λ p shows. c.one_stop.ensures.shows p (c.loop-stop.invariant.0 p shows); undamaged = λ e. absurd (not_damaged e) }
 
 pub returns-in-Err : goal.returns-in-Err
 returns-in-Err g c = record {
   text = tt;
-  shows = λ p shows. c.one-stop.ensures.shows p (c.loop-stop.invariant.0 p shows);
+  shows = λ p shows. c.one_stop.ensures.shows p (c.loop-stop.invariant.0 p shows);
   undamaged = λ e p shows. c.in-Err.ensures.undamaged e p (c.loop-stop.invariant.0 p shows);
 }
 
@@ -26,8 +26,8 @@ pub loop-stop-preserved : goal.loop-stop-preserved
 loop-stop-preserved g c =
     let stop = c.loop-stop.stop in
     let text = string_bytes c.loop-stop.text in
-    let pushed = c.push-str.ensures.bytes ∙ cond-true _ _ _ (c.is-err.ensures.negation ∙ ap not c.if-is-err.false) ∙ ap (λ (l : List ℕ). text ++ l) c.as-str.ensures.value in (
-      λ p shows. c.one-stop.ensures.shows p (c.loop-stop.invariant.0 p shows),
+    let pushed = c.push_str.ensures.bytes ∙ cond-true _ _ _ (c.is_err.ensures.negation ∙ ap not c.if-is_err.false) ∙ ap (λ (l : List ℕ). text ++ l) c.as_str.ensures.value in (
+      λ p shows. c.one_stop.ensures.shows p (c.loop-stop.invariant.0 p shows),
       λ p shows.
           let tally : ℕ → Option Tally = told_of (λ bs. g.C.Conserving.holds (g.C.Computation.operations.load bs)) (λ bs. g.D.Totalling.totals (g.D.Computation.operations.load bs)) p in
           pushed

@@ -8,9 +8,9 @@ pub returns : goal.returns
 returns c =
     let events = events_from 1 c.args.outcomes.now in
     let stops = c.args.stops.now in
-    let with-fault = c.in-ok-push-str.ensures.bytes
-    ∙ ap (λ (t : List ℕ). t ++ c.as-str.result.now) c.in-ok-text.ensures
-    ∙ ap (λ (t : List ℕ). events ++ t) (c.as-str.ensures.value ∙ c.in-ok-fault.ensures) in
-    c.in-ok-push-str-2.ensures.bytes
+    let with-fault = c.in_ok-push_str.ensures.bytes
+    ∙ ap (λ (t : List ℕ). t ++ c.as_str.result.now) c.in_ok-text.ensures
+    ∙ ap (λ (t : List ℕ). events ++ t) (c.as_str.ensures.value ∙ c.in_ok-fault.ensures) in
+    c.in_ok-push_str-2.ensures.bytes
     ∙ ap (λ (t : List ℕ). t ++ stops) with-fault
     ∙ append_assoc events (fault_text (placed c.args.fault)) stops

@@ -7,8 +7,8 @@ use Rattle.rows.specs.Meaning.{row_of}
 use Rattle.steps.proofs.Refusals.{refused_room}
 use Rattle.steps.proofs.takes.take_record.Goals as goal
 
-pub returns-in-default : goal.returns-in-default
-returns-in-default g c = λ e.
+pub returns-in_default : goal.returns-in_default
+returns-in_default g c = λ e.
     let plain = g.C.Computation.operations in
     let ops = on_bytes plain in
     let row = row_of c.args.row.now in
@@ -22,4 +22,4 @@ returns-in-default g c = λ e.
     c.max-floor.ensures ∙ ap (λ (m : ℕ). max m w) (c.mark.ensures taken.sound ∙ ap plain.mark (sym back ∙ ap (λ x. plain.load (plain.store x.0)) after)) in
     let kept = c.if-not-remember.ensures.after in
     refused_room ops c.args.on w given row (row_of c.remember.new.self) c.max-floor.result c.in-Ok.taken.1 c.emit.result
-    let-in (ap (λ x. x.1) (sym after)) is-floor c.if-not-remember.ensures.room (ap (λ (x : Row). x.pending) kept) (ap (λ (x : Row). x.next) kept) c.emit.ensures.answer c.in-default.not-Done
+    let-in (ap (λ x. x.1) (sym after)) is-floor c.if-not-remember.ensures.room (ap (λ (x : Row). x.pending) kept) (ap (λ (x : Row). x.next) kept) c.emit.ensures.answer c.in_default.not-Done

@@ -7,8 +7,8 @@ use Rattle.node.specs.Shows.{free_of}
 use Rattle.node.proofs.Showing.{told_by, is_on, advanced_done, advanced_cut}
 use Rattle.node.proofs.node.Node.advance.Goals as goal
 
-pub returns-then-time-gt-LAST-TIME : goal.returns-then-time-gt-LAST-TIME
-returns-then-time-gt-LAST-TIME g c = λ n shows.
+pub returns-then-time-gt-LAST_TIME : goal.returns-then-time-gt-LAST_TIME
+returns-then-time-gt-LAST_TIME g c = λ n shows.
     let over : last_time < c.args.time = search rules in
     told_by (cond-false _ _ _ (lt-leb c.args.time last_time over)) (record { answer = refl; shows = shows })
 
@@ -22,16 +22,16 @@ returns-in-Done g c = λ n shows.
     let on = sym (is_on store g.N.NameSet g.C.Computation g.met.S.Store.turn_within v n shows) ∙ store-on in
     let did = c.in-Done.ensures shows.store_fit (on_bytes g.C.Computation.operations) (store.restart_cut v.store 0) in
     told_by (cond-true _ _ _ (le-leb c.args.time last_time small) ∙ cond-true _ _ _ on ∙ cond-false _ _ _ (lt-leb c.args.time n.w (omega (arith, (shows.follows on).watermark))))
-    (advanced_done store g.N.NameSet g.C.Computation g.met.S.Store.turn_within v c.commit-watermark.new.store c.args.time _ n shows on small did)
+    (advanced_done store g.N.NameSet g.C.Computation g.met.S.Store.turn_within v c.commit_watermark.new.store c.args.time _ n shows on small did)
 
-pub returns-in-default : goal.returns-in-default
-returns-in-default g c = λ n shows.
+pub returns-in_default : goal.returns-in_default
+returns-in_default g c = λ n shows.
     let v = c.args.self.now in
     let store = g.S.Store in
     let small : c.args.time ≤ last_time = search rules in
     let store-on : (store.model v.store).power.on ≡ true = search rules in
     let past : v.watermark < c.args.time = search rules in
     let on = sym (is_on store g.N.NameSet g.C.Computation g.met.S.Store.turn_within v n shows) ∙ store-on in
-    let did = c.commit-watermark.ensures shows.store_fit (on_bytes g.C.Computation.operations) (store.restart_cut v.store 0) in
+    let did = c.commit_watermark.ensures shows.store_fit (on_bytes g.C.Computation.operations) (store.restart_cut v.store 0) in
     told_by (cond-true _ _ _ (le-leb c.args.time last_time small) ∙ cond-true _ _ _ on ∙ cond-false _ _ _ (lt-leb c.args.time n.w (omega (arith, (shows.follows on).watermark))))
-    (advanced_cut store g.N.NameSet g.C.Computation g.met.S.Store.turn_within v c.commit-watermark.new.store c.args.time _ n shows on small _ did c.in-default.not-Done)
+    (advanced_cut store g.N.NameSet g.C.Computation g.met.S.Store.turn_within v c.commit_watermark.new.store c.args.time _ n shows on small _ did c.in_default.not-Done)

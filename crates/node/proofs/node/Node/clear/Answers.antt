@@ -22,11 +22,11 @@ returns g c = λ n shows.
     let v = c.args.self.now in
     let s = c.args.stop in
     let below : s < stops = search rules in
-    let on = sym (is_on store set computation g.met.S.Store.turn_within v n shows) ∙ sym c.if-not-is-on.ensures in
+    let on = sym (is_on store set computation g.met.S.Store.turn_within v n shows) ∙ sym c.if-not-is_on.ensures in
     let read = c.in-Some.ensures in
     let row_is = read_is c.in-Some.row (n.row s) (read.row n shows on below) in
-    let oldest : is_oldest c.args.serial (n.row s).pending ≡ true = ap (λ (r : Row). is_oldest c.args.serial r.pending) (sym row_is) ∙ sym c.if-not-is-oldest.ensures in
-    let New-is = c.clear-oldest.ensures ∙ ap cleared_row row_is in
+    let oldest : is_oldest c.args.serial (n.row s).pending ≡ true = ap (λ (r : Row). is_oldest c.args.serial r.pending) (sym row_is) ∙ sym c.if-not-is_oldest.ensures in
+    let New-is = c.clear_oldest.ensures ∙ ap cleared_row row_is in
     let free = free_of store set computation 0 v c.commit.new.self in
     let kit = kit_of store set computation in
     told_by (cond-true _ _ _ (lt-ltb s stops below) ∙ cond-true _ _ _ on ∙ cond-true _ _ _ oldest ∙ ap (λ (r : Row). commit_row kit free s r n) (sym New-is))

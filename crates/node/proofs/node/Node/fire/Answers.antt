@@ -20,7 +20,7 @@ returns-in-Some g c = λ n shows.
     let computation = g.C.Computation in
     let ops = on_bytes computation.operations in
     let v = c.args.self.now in
-    let on = sym (is_on store set computation g.met.S.Store.turn_within v n shows) ∙ sym c.if-not-is-on.ensures in
+    let on = sym (is_on store set computation g.met.S.Store.turn_within v n shows) ∙ sym c.if-not-is_on.ensures in
     let f = shows.follows on in
     let best = best_same (λ (d e : ℕ). ltb d e) (due_at v.timers) (λ s. ops.due (n.row s).state) stops f.due in
     let due = some_due v.watermark c.in-Some.stop (earliest_of (due_at v.timers)) (sym c.in-Some.ensures) in
@@ -28,9 +28,9 @@ returns-in-Some g c = λ n shows.
     let there = earliest_due ops n.row (c.in-Some.stop, due.0) first in
     let reached : due.0 ≤ n.w = omega (arith, leb-true due.0 v.watermark due.2, f.watermark) in
     let kit = kit_of store set computation in
-    let free = free_of store set computation 0 v c.fire-stop.new.self in
+    let free = free_of store set computation 0 v c.fire_stop.new.self in
     told_by (cond-true _ _ _ on ∙ ap (λ (o : Option (ℕ × ℕ)). fire_due kit free o n) first ∙ cond-true _ _ _ (ap (λ (w : ℕ). leb due.0 w) (sym f.watermark) ∙ due.2))
-    (c.fire-stop.ensures n shows (on, there.0, record { due = due.0; due_is = there.1; reached = reached; watermark = shows.kept.watermark_fits }))
+    (c.fire_stop.ensures n shows (on, there.0, record { due = due.0; due_is = there.1; reached = reached; watermark = shows.kept.watermark_fits }))
 
 pub returns-in-None : goal.returns-in-None
 returns-in-None g c = λ n shows.
@@ -39,7 +39,7 @@ returns-in-None g c = λ n shows.
     let computation = g.C.Computation in
     let ops = on_bytes computation.operations in
     let v = c.args.self.now in
-    let on = sym (is_on store set computation g.met.S.Store.turn_within v n shows) ∙ sym c.if-not-is-on.ensures in
+    let on = sym (is_on store set computation g.met.S.Store.turn_within v n shows) ∙ sym c.if-not-is_on.ensures in
     let f = shows.follows on in
     let best = best_same (λ (d e : ℕ). ltb d e) (due_at v.timers) (λ s. ops.due (n.row s).state) stops f.due in
     let none : due_by n.w (earliest ops n.row) ≡ None =

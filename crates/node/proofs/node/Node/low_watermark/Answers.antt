@@ -23,7 +23,7 @@ loop-stop-preserved g c =
       stays_then g.S.Store g.N.NameSet g.C.Computation g.met.S.Store.turn_within inv.0 read.stays,
       λ n shows on.
           let row_is = read_is c.in-Some.row (n.row i) (read.row n (inv.0.shows n shows) on below) in
-          c.low-in-low.ensures
+          c.low_in-low.ensures
           ∙ ap (λ (r : Row). least_due (ops.due r.state) (least_time r.pending c.loop-stop.low)) row_is
           ∙ ap (λ (low : ℕ). least_due (ops.due (n.row i).state) (least_time (n.row i).pending low)) (inv.1 n shows on)
           ∙ sym (low_more ops n.row n.w i),

@@ -28,14 +28,14 @@ returns-in-Some g c = λ fit₀ n kept₀ on queue_is.
       names_fit = emptied.names_fit;
       follows = follows_none ops _ n emptied.names emptied.queue w-is;
     } in
-    let last = c.remake-stops.ensures.shows n first in
+    let last = c.remake_stops.ensures.shows n first in
     record {
-      all = c.remake-stops.ensures.all n first;
+      all = c.remake_stops.ensures.all n first;
       shows = record {
         kept = last.kept;
         store_fit = last.store_fit;
         names_fit = last.names_fit;
         follows = λ _. follows_all ops _ n queue_is last.follows;
       };
-      means = c.remake-stops.ensures.means read.fits ∙ read.means ∙ ap store.model emptied.store_is;
+      means = c.remake_stops.ensures.means read.fits ∙ read.means ∙ ap store.model emptied.store_is;
     }

@@ -25,7 +25,7 @@ returns-in-Some g c = λ below.
     let ops = on_bytes computation.operations in
     let v = c.args.self.now in
     let v' : Node g.row.S.Denot g.row.N.Denot g.row.C.Denot =
-    record { store = c.read-row.new.store; names = c.add-all.new.set; timers = c.set.new.self; panel = c.set-in-Some.new.self; queue = c.requeue.new.queue; watermark = v.watermark; computation = v.computation } in
+    record { store = c.read_row.new.store; names = c.add_all.new.set; timers = c.set.new.self; panel = c.set-in-Some.new.self; queue = c.requeue.new.queue; watermark = v.watermark; computation = v.computation } in
     let i = c.args.stop in
     let row = c.in-Some.row in
     let read = c.in-Some.ensures.reads in
@@ -34,7 +34,7 @@ returns-in-Some g c = λ below.
       shows = λ n shows.
           let row_is = read_is row (n.row i) ((read shows.store_fit).row n shows.kept shows.on below) in
           let names-are = c.names.ensures ∙ ap (λ (r : Row). r.names) row_is in
-          let added = same_added names-are (c.add-all.ensures shows.names_fit) in
+          let added = same_added names-are (c.add_all.ensures shows.names_fit) in
           record {
             kept = subst (λ (x : Stored). Kept x n) (sym (read shows.store_fit).means) shows.kept;
             on = shows.on;
@@ -42,7 +42,7 @@ returns-in-Some g c = λ below.
             names_fit = added.fit;
             follows =
                 follows_more ops i (beside_of store set computation v) (beside_of store set computation v') n below (shows.kept.row i below).fits.few_names shows.follows _ _ _ added
-                c.set.ensures (c.due-in.ensures ∙ ap ops.due (c.state.ensures ∙ ap (λ (r : Row). r.state) row_is))
+                c.set.ensures (c.due_in.ensures ∙ ap ops.due (c.state.ensures ∙ ap (λ (r : Row). r.state) row_is))
                 c.set-in-Some.ensures (c.oldest.ensures ∙ oldest_is (row_of row).pending ∙ ap (λ (r : Row). oldest r.pending) row_is)
                 (λ line low. c.requeue.ensures line low ∙ ap (λ (r : Row). requeued i r.pending (lined v.queue)) row_is) refl;
           };

@@ -33,7 +33,7 @@ returns-else-remake g c = λ n shows.
     let remade = c.if-remake.ensures did.fits (woken c.args.left c.args.tear t.power.owed n) woke.kept woke.lasts refl in
     absurd (both_ways false refl remade.all)
 
-pub returns-in-default : goal.returns-in-default
-returns-in-default g c = λ n shows.
+pub returns-in_default : goal.returns-in_default
+returns-in_default g c = λ n shows.
     woken_not g.S.Store g.N.NameSet g.C.Computation c.args.self.now c.restart.new.self c.args.left c.args.tear c.args.junk.now n shows c.restart.result
-    (c.restart.ensures.restarts shows.store_fit) c.in-default.not-Done
+    (c.restart.ensures.restarts shows.store_fit) c.in_default.not-Done

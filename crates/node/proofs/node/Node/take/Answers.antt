@@ -17,8 +17,8 @@ use Rattle.node.proofs.Showing.{told_by, rewrapped, read_is}
 use Rattle.node.proofs.Taking.{same_took, same_refused}
 use Rattle.node.proofs.node.Node.take.Goals as goal
 
-pub returns-in-default : goal.returns-in-default
-returns-in-default g c = λ n shows known.
+pub returns-in_default : goal.returns-in_default
+returns-in_default g c = λ n shows known.
     let below = ranged_stop c.args.given.now known.0 in
     let on = known.1 in
     let read = c.row.ensures.row n shows on below in
@@ -37,7 +37,7 @@ returns-in-Ok g c = λ n shows known.
     let read = c.in-Some.ensures in
     let row_is = read_is c.in-Some.row (n.row given.stop) (read.row n shows on below) in
     let shows-1 = read.stays.shows n shows in
-    let asked = c.has-seen-seen.ensures in
+    let asked = c.has_seen-seen.ensures in
     let shows-2 = asked.stays.shows n shows-1 in
     let seen_is = asked.answer n shows-1 on below in
     let w-is = (shows-2.follows on).watermark in
@@ -64,11 +64,11 @@ returns-in-Err g c = λ n shows known.
     let read = c.in-Some.ensures in
     let row_is = read_is c.in-Some.row (n.row given.stop) (read.row n shows on below) in
     let shows-1 = read.stays.shows n shows in
-    let asked = c.has-seen-seen.ensures in
+    let asked = c.has_seen-seen.ensures in
     let shows-2 = asked.stays.shows n shows-1 in
     let seen_is = asked.answer n shows-1 on below in
     let w-is = (shows-2.follows on).watermark in
     let refused = same_refused ops true (sym row_is) w-is (c.in-Err.ensures (seen_is ∙ ap (λ (r : Row). seen given.name r.names) (sym row_is))) in
     told_by
-    (hand_in_refused (kit_of store set computation) (free_of store set computation 0 v c.has-seen-seen.new.self) given n _ (refused.answer ∙ ap (λ b. considered ops b n.w given (n.row given.stop)) (sym on)) refused.refused)
+    (hand_in_refused (kit_of store set computation) (free_of store set computation 0 v c.has_seen-seen.new.self) given n _ (refused.answer ∙ ap (λ b. considered ops b n.w given (n.row given.stop)) (sym on)) refused.refused)
     (record { answer = refl; shows = shows-2 })

@@ -17,13 +17,13 @@ returns g c = λ stood p shows.
     let place = c.args.place in
     let s = c.args.stop in
     let n = c.args.serial in
-    let l = c.take-out.new.self in
+    let l = c.take_out.new.self in
     let v' : Pair _ _ _ _ _ _ = record { collector = c.clear.new.self; spotter = v.spotter; link = l } in
     let kits = kits_of g.S.Store g.N.NameSet g.C.Computation g.T.Store g.O.NameSet g.D.Computation in
     let free = collector_free g.S.Store g.N.NameSet g.C.Computation g.T.Store g.O.NameSet g.D.Computation 0 v v' in
-    let on = sym (is_on g.S.Store g.N.NameSet g.C.Computation g.met.S.Store.turn_within v.collector p.collector shows.collector) ∙ sym c.if-not-is-on.ensures in
+    let on = sym (is_on g.S.Store g.N.NameSet g.C.Computation g.met.S.Store.turn_within v.collector p.collector shows.collector) ∙ sym c.if-not-is_on.ensures in
     let here = ap (λ (ms : List Message). slice_get ms place) (sym shows.link) ∙ stood in
-    let gone = taken_out v.link l place (Acknowledged s n) stood c.take-out.ensures.there c.take-out.ensures.messages in
+    let gone = taken_out v.link l place (Acknowledged s n) stood c.take_out.ensures.there c.take_out.ensures.messages in
     told_as (ap (λ (f : Free). deliver kits f place p) (free_word g.S.Store g.N.NameSet g.C.Computation g.T.Store g.O.NameSet g.D.Computation v v' place s n stood) ∙ deliver_word kits free place p s n here on)
     (told_collector g.S.Store g.N.NameSet g.C.Computation g.T.Store g.O.NameSet g.D.Computation c.clear.new.self v.spotter l (with_link (remove p.link place) p) c.plain.ensures
     (c.clear.ensures p.collector shows.collector) shows.spotter (gone ∙ ap (λ (ms : List Message). remove ms place) shows.link))

@@ -9,8 +9,8 @@ use Rattle.pair.proofs.pair.Pair.run.Goals as goal
 pub loop-call-init : goal.loop-call-init
 loop-call-init g c = let made = c.in-Ok.ensures.made in (made.1.0, made.1.1, (made.0, refl))
 
-pub push-reserved-requires : goal.push-reserved-requires
-push-reserved-requires g c = omega arith
+pub push_reserved-requires : goal.push_reserved-requires
+push_reserved-requires g c = omega arith
 
 pub returns-in-Err : goal.returns-in-Err
 returns-in-Err g c =
@@ -26,13 +26,13 @@ pub loop-call-preserved : goal.loop-call-preserved
 loop-call-preserved g c =
     let i = c.loop-call.call-index in
     let calls = c.args.calls.now in
-    let pushed = c.push-reserved.ensures in
+    let pushed = c.push_reserved.ensures in
     let inv = c.loop-call.invariant in
     let below : i < length calls = omega arith in
     let more = ran_more g.S.Store g.N.NameSet g.C.Computation g.T.Store g.O.NameSet g.D.Computation c.args.self.now c.loop-call.self c.call.new.self (take i calls) (vec_items c.loop-call.outcomes) (get_or calls i no_call) c.in-Ok-call.outcome inv.2 c.in-Ok-call.ensures in (
       omega (arith, pushed.len, inv.0),
       omega (arith, pushed.capacity, inv.1),
-      subst (λ (cs : List Call). Ran g.S.Store g.N.NameSet g.C.Computation g.T.Store g.O.NameSet g.D.Computation c.args.self.now cs (vec_items c.push-reserved.new.self) c.call.new.self) (sym (take_more calls i no_call below))
+      subst (λ (cs : List Call). Ran g.S.Store g.N.NameSet g.C.Computation g.T.Store g.O.NameSet g.D.Computation c.args.self.now cs (vec_items c.push_reserved.new.self) c.call.new.self) (sym (take_more calls i no_call below))
           (subst (λ (os : List Outcome). Ran g.S.Store g.N.NameSet g.C.Computation g.T.Store g.O.NameSet g.D.Computation c.args.self.now (take i calls ++ (get_or calls i no_call ∷ [])) os c.call.new.self) (sym pushed.items) more),
     )
 

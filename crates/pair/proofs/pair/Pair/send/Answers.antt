@@ -8,38 +8,38 @@ use Rattle.pair.proofs.Sending.{send_none, send_full, send_head, head_below}
 use Rattle.pair.proofs.Telling.{told_as, told_same}
 use Rattle.pair.proofs.pair.Pair.send.Goals as goal
 
-pub returns-in-default : goal.returns-in-default
-returns-in-default g c = λ p shows.
+pub returns-in_default : goal.returns-in_default
+returns-in_default g c = λ p shows.
     let v = c.args.self.now in
-    let on = sym (is_on g.S.Store g.N.NameSet g.C.Computation g.met.S.Store.turn_within v.collector p.collector shows.collector) ∙ sym c.if-not-is-on.ensures in
-    let head = sym (c.in-default.ensures p.collector shows.collector on) in
+    let on = sym (is_on g.S.Store g.N.NameSet g.C.Computation g.met.S.Store.turn_within v.collector p.collector shows.collector) ∙ sym c.if-not-is_on.ensures in
+    let head = sym (c.in_default.ensures p.collector shows.collector on) in
     told_as (send_none p on (shows.collector.follows on).queued head) (told_same g.S.Store g.N.NameSet g.C.Computation g.T.Store g.O.NameSet g.D.Computation shows)
 
-pub returns-then-is-full : goal.returns-then-is-full
-returns-then-is-full g c = λ p shows.
+pub returns-then-is_full : goal.returns-then-is_full
+returns-then-is_full g c = λ p shows.
     let v = c.args.self.now in
-    let on = sym (is_on g.S.Store g.N.NameSet g.C.Computation g.met.S.Store.turn_within v.collector p.collector shows.collector) ∙ sym c.if-not-is-on.ensures in
+    let on = sym (is_on g.S.Store g.N.NameSet g.C.Computation g.met.S.Store.turn_within v.collector p.collector shows.collector) ∙ sym c.if-not-is_on.ensures in
     let head = sym (c.in-Some.ensures p.collector shows.collector on) in
-    let full = ap (λ (ms : List Message). leb most_messages (length ms)) (sym shows.link) ∙ sym c.is-full.ensures ∙ c.if-is-full.true in
+    let full = ap (λ (ms : List Message). leb most_messages (length ms)) (sym shows.link) ∙ sym c.is_full.ensures ∙ c.if-is_full.true in
     told_as (send_full p on (shows.collector.follows on).queued c.in-Some.stop head full) (told_same g.S.Store g.N.NameSet g.C.Computation g.T.Store g.O.NameSet g.D.Computation shows)
 
-pub returns-in-default-oldest : goal.returns-in-default-oldest
-returns-in-default-oldest g c = λ p shows.
+pub returns-in_default-oldest : goal.returns-in_default-oldest
+returns-in_default-oldest g c = λ p shows.
     let v = c.args.self.now in
-    let on = sym (is_on g.S.Store g.N.NameSet g.C.Computation g.met.S.Store.turn_within v.collector p.collector shows.collector) ∙ sym c.if-not-is-on.ensures in
+    let on = sym (is_on g.S.Store g.N.NameSet g.C.Computation g.met.S.Store.turn_within v.collector p.collector shows.collector) ∙ sym c.if-not-is_on.ensures in
     let queued = (shows.collector.follows on).queued in
     let head = sym (c.in-Some.ensures p.collector shows.collector on) in
-    let room = ap (λ (ms : List Message). leb most_messages (length ms)) (sym shows.link) ∙ sym c.is-full.ensures ∙ c.if-is-full.false in
+    let room = ap (λ (ms : List Message). leb most_messages (length ms)) (sym shows.link) ∙ sym c.is_full.ensures ∙ c.if-is_full.false in
     let below = head_below p on queued c.in-Some.stop head in
-    told_as (send_head p on queued c.in-Some.stop _ head room (sym (c.in-default-oldest.ensures p.collector shows.collector on below))) (told_same g.S.Store g.N.NameSet g.C.Computation g.T.Store g.O.NameSet g.D.Computation shows)
+    told_as (send_head p on queued c.in-Some.stop _ head room (sym (c.in_default-oldest.ensures p.collector shows.collector on below))) (told_same g.S.Store g.N.NameSet g.C.Computation g.T.Store g.O.NameSet g.D.Computation shows)
 
 pub returns : goal.returns
 returns g c = λ p shows.
     let v = c.args.self.now in
-    let on = sym (is_on g.S.Store g.N.NameSet g.C.Computation g.met.S.Store.turn_within v.collector p.collector shows.collector) ∙ sym c.if-not-is-on.ensures in
+    let on = sym (is_on g.S.Store g.N.NameSet g.C.Computation g.met.S.Store.turn_within v.collector p.collector shows.collector) ∙ sym c.if-not-is_on.ensures in
     let queued = (shows.collector.follows on).queued in
     let head = sym (c.in-Some.ensures p.collector shows.collector on) in
-    let room = sym c.is-full.ensures ∙ c.if-is-full.false in
+    let room = sym c.is_full.ensures ∙ c.if-is_full.false in
     let below = head_below p on queued c.in-Some.stop head in
     let joins = added v.link c.add.new.self _ room c.add.ensures.room c.add.ensures.messages in
     told_as (send_head p on queued c.in-Some.stop _ head (ap (λ (ms : List Message). leb most_messages (length ms)) (sym shows.link) ∙ room) (sym (c.in-Some-oldest.ensures p.collector shows.collector on below)))

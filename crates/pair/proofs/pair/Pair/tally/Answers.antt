@@ -11,12 +11,12 @@ returns g c =
     let s = c.args.stop in
     let below : s < stops = omega arith in
     let held = c.in-Ok.ensures in
-    let pending = c.in-Ok-pending-amount.ensures in
+    let pending = c.in-Ok-pending_amount.ensures in
     let landed = c.in-Ok-total.ensures in
     record {
       answer = λ p shows.
-          let con = sym (is_on g.S.Store g.N.NameSet g.C.Computation g.met.S.Store.turn_within v.collector p.collector shows.collector) ∙ sym c.if-not-is-on.ensures in
-          let son = sym (is_on g.T.Store g.O.NameSet g.D.Computation g.met.T.Store.turn_within v.spotter p.spotter shows.spotter) ∙ sym c.if-not-is-on-2.ensures in
+          let con = sym (is_on g.S.Store g.N.NameSet g.C.Computation g.met.S.Store.turn_within v.collector p.collector shows.collector) ∙ sym c.if-not-is_on.ensures in
+          let son = sym (is_on g.T.Store g.O.NameSet g.D.Computation g.met.T.Store.turn_within v.spotter p.spotter shows.spotter) ∙ sym c.if-not-is_on-2.ensures in
           tally_told (λ bs. g.C.Conserving.holds (g.C.Computation.operations.load bs)) (λ bs. g.D.Totalling.totals (g.D.Computation.operations.load bs)) p s below con son
           (ok_is _ _ (held.value p.collector shows.collector (con, below)))
           (ok_is _ _ (pending.value p.collector (held.stays.shows p.collector shows.collector) (con, below)))
