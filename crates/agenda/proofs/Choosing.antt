@@ -1,5 +1,5 @@
 -- That the first of a heap of slots is the best, ties to the lowest stop.
-use Rattle.std.proofs.Common.{◌≡◌, ℕ, zero, suc, ◌<◌, ◌≤◌, Bool, true, false, cond, eqb, ◌⊎◌, List, [], length, get_or, Some, None, Option, Ordering, Less, Equal, Greater, sym, refl, ap, ◌∙◌, subst, inl, inr, true≢false, arith, lt-ltb}
+use Rattle.std.proofs.Common.{◌≡◌, ℕ, zero, suc, ◌<◌, Bool, true, false, cond, eqb, List, Some, None, Option, Ordering, Less, Equal, Greater, sym, refl, ap, ◌∙◌, subst, inl, inr, true≢false, arith, lt-ltb}
 use Rattle.std.specs.Cmp.{IsTotalOrder}
 use Rattle.std.specs.Option.{option_map}
 use Rattle.std.specs.Ordering.{is_lt, ordering_reverse, ordering_then, nat_cmp}
@@ -8,7 +8,7 @@ use Rattle.std.proofs.Permutation.{which}
 use Rattle.model.specs.FirstBest.{first_best, better}
 use Rattle.model.specs.Limits.{stops}
 use Rattle.heap.specs.Heaps.{Least}
-use Rattle.agenda.specs.Orders.{slot_total, late}
+use Rattle.agenda.specs.Orders.{slot_order, slot_total, late}
 use Rattle.agenda.specs.Slots.{held, Single}
 use Rattle.agenda.specs.declared.slot.Slot.{Slot}
 use Rattle.agenda.proofs.Holding.{held_of, slot_of, known}
@@ -94,8 +94,8 @@ best_mapped {X} {Y} f beats at (suc n) = go (first_best (λ x y. beats (f x) (f 
 module _ {V : Type 0} {R : V → V → Ordering} (o : IsTotalOrder R) (xs : List (Slot V)) (one : Single xs) (t : Slot V) (has : Has xs t)
     (least : Least (slot_total o) t xs) where
   -- no slot is below it
-  least_of : (z : Slot V) → Has xs z → is_lt ((slot_total o).cmp z t) ≡ false
-  least_of z h = subst (λ (y : Slot V). is_lt ((slot_total o).cmp y t) ≡ false) (h.2 z) (least h.0 z h.1)
+  least_of : (z : Slot V) → Has xs z → is_lt (slot_order R z t) ≡ false
+  least_of z h = subst (λ (y : Slot V). is_lt (slot_order R y t) ≡ false) (h.2 z) (least h.0 z h.1)
 
   -- the slot of a stop that has a value
   slot_with : (q : ℕ) (y : V) → q < stops → held xs q ≡ Some y → (z : Slot V) × Has xs z × (z.stop ≡ q) × (z.value ≡ Some y)
@@ -104,17 +104,17 @@ module _ {V : Type 0} {R : V → V → Ordering} (o : IsTotalOrder R) (xs : List
       let n : r.0.stop < stops = omega (arith, r.2) in
       (r.0, r.1, r.2, sym (held_of xs r.0 (one.0 r.0.stop n) r.1) ∙ ap (held xs) r.2 ∙ e)
 
-  not_below : (q : ℕ) (y : V) → q < stops → held xs q ≡ Some y → is_lt (ordering_then (late o (Some y) t.value) (nat_cmp q t.stop)) ≡ false
+  not_below : (q : ℕ) (y : V) → q < stops → held xs q ≡ Some y → is_lt (ordering_then (late R (Some y) t.value) (nat_cmp q t.stop)) ≡ false
   not_below q y l e =
       let z = slot_with q y l e in
-      (λ k. is_lt (ordering_then (late o (sym z.3 k) t.value) (nat_cmp (sym z.2 k) t.stop))) ∙ least_of z.0 z.1
+      (λ k. is_lt (ordering_then (late R (sym z.3 k) t.value) (nat_cmp (sym z.2 k) t.stop))) ∙ least_of z.0 z.1
 
   pub first_none : t.value ≡ None → first_best (λ x y. is_lt (R x y)) (held xs) stops ≡ None
   first_none e = best_none (λ x y. is_lt (R x y)) (held xs) stops (λ q l. go q l (held xs q) refl)
     where
       go : (q : ℕ) → q < stops → (v : Option V) → held xs q ≡ v → held xs q ≡ None
       go q l None h = h
-      go q l (Some y) h = absurd (true≢false (ap (λ v. is_lt (ordering_then (late o (Some y) v) (nat_cmp q t.stop))) (sym e) ∙ not_below q y l h))
+      go q l (Some y) h = absurd (true≢false (ap (λ v. is_lt (ordering_then (late R (Some y) v) (nat_cmp q t.stop))) (sym e) ∙ not_below q y l h))
 
   pub first_some : (x : V) → t.value ≡ Some x → first_best (λ x y. is_lt (R x y)) (held xs) stops ≡ Some (t.stop, x)
   first_some x e =
@@ -124,7 +124,7 @@ module _ {V : Type 0} {R : V → V → Ordering} (o : IsTotalOrder R) (xs : List
       (λ q y b l h. after (R y x) (nat_cmp q t.stop) (said q y l h))
     where
       said : (q : ℕ) (y : V) → q < stops → held xs q ≡ Some y → is_lt (ordering_then (R y x) (nat_cmp q t.stop)) ≡ false
-      said q y l h = ap (λ v. is_lt (ordering_then (late o (Some y) v) (nat_cmp q t.stop))) (sym e) ∙ not_below q y l h
+      said q y l h = ap (λ v. is_lt (ordering_then (late R (Some y) v) (nat_cmp q t.stop))) (sym e) ∙ not_below q y l h
 
       ltb_rank : (a b : ℕ) → a < b → nat_cmp a b ≡ Less
       ltb_rank a b l = ap (λ (c : Bool). cond c Less (cond (eqb a b) Equal Greater)) (lt-ltb a b l)

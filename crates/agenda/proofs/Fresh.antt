@@ -1,5 +1,5 @@
 -- Empty slots, one for each stop: a heap in which each stop has one slot and nothing in it.
-use Rattle.std.proofs.Common.{◌≡◌, ℕ, zero, suc, ◌+◌, ◌<◌, ◌≤◌, Bool, true, false, cond, eqb, ltb, ◌⊎◌, List, [], ◌∷◌, map, length, get_or, Some, None, count_by, Option, Ordering, Less, Equal, Greater, sym, refl, ap, ◌∙◌, subst, inl, inr, arith, le-ltb, eq-eqb, ne_eqb}
+use Rattle.std.proofs.Common.{◌≡◌, ℕ, zero, suc, ◌+◌, ◌<◌, ◌≤◌, Bool, true, false, cond, eqb, List, map, get_or, None, count_by, Option, Ordering, Less, Equal, Greater, sym, refl, ap, ◌∙◌, subst, inl, inr, arith, le-ltb, eq-eqb, ne_eqb}
 use Rattle.std.specs.List.{range_with_len}
 use Rattle.std.specs.Cmp.{IsTotalOrder}
 use Rattle.std.specs.Ordering.{is_lt, nat_cmp}
@@ -8,7 +8,7 @@ use Rattle.std.proofs.lemmas.List.FromFn.{get_or-map-range_with_len, length-map-
 use Rattle.std.proofs.lemmas.List.Sums.{sum_by-cons}
 use Rattle.model.specs.Limits.{stops}
 use Rattle.heap.specs.Heaps.{Heaped, parent}
-use Rattle.agenda.specs.Orders.{slot_total}
+use Rattle.agenda.specs.Orders.{slot_order, slot_total}
 use Rattle.agenda.specs.Slots.{empty_slot, held, Single}
 use Rattle.agenda.specs.declared.slot.Slot.{Slot}
 
@@ -55,9 +55,9 @@ module _ (V : Type 0) where
 
   fresh_heaped : {R : V → V → Ordering} (o : IsTotalOrder R) (n : ℕ) → Heaped (slot_total o) (fresh 0 n)
   unfolding fresh
-  fresh_heaped o n k d a b l =
+  fresh_heaped {R} o n k d a b l =
       let m = length-map-range_with_len (empty_slot {V = V}) 0 n in
-      (λ i. is_lt ((slot_total o).cmp (fresh_at n k d (omega arith) i) (fresh_at n (parent k) d (omega arith) i))) ∙ not_less k (parent k) (omega arith)
+      (λ i. is_lt (slot_order R (fresh_at n k d (omega arith) i) (fresh_at n (parent k) d (omega arith) i))) ∙ not_less k (parent k) (omega arith)
 
   fresh_held : (n a q : ℕ) → held (fresh a n) q ≡ None
   unfolding fresh

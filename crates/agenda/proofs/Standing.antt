@@ -1,10 +1,10 @@
 -- From what the slots hold to what the timers and the panel hold, for every number.
-use Rattle.std.proofs.Common.{◌≡◌, ℕ, zero, suc, ◌<◌, ◌≤◌, Bool, true, false, cond, eqb, ltb, List, Some, None, Option, Ordering, Less, Equal, Greater, sym, refl, ap, ◌∙◌, zero-le, arith, ltb-false, ltb-true, lt-ltb, ne_eqb}
+use Rattle.std.proofs.Common.{◌≡◌, ℕ, ◌<◌, Bool, true, false, cond, eqb, ltb, List, None, Option, Ordering, Less, Equal, Greater, sym, refl, ap, ◌∙◌, zero-le, arith, ltb-false, ltb-true, lt-ltb, ne_eqb}
 use mathlib.Core.Path.{fun_ext}
 use Rattle.std.specs.Cmp.{IsTotalOrder}
 use Rattle.std.specs.Option.{option_map}
 use Rattle.std.specs.Ordering.{is_lt, nat_cmp}
-use Rattle.model.specs.FirstBest.{first_best, better}
+use Rattle.model.specs.FirstBest.{first_best}
 use Rattle.model.specs.Limits.{stops}
 use Rattle.heap.specs.Heaps.{Heaped}
 use Rattle.agenda.specs.Slots.{held, held_below, updated, changed, Placed}

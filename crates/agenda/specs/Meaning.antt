@@ -1,5 +1,5 @@
 -- What the timers and the panel hold for each stop. Assumes nothing.
-use Rattle.std.specs.Prelude.{ℕ, Bool, Option, nat_lt}
+use Rattle.std.specs.Prelude.{ℕ, Option, nat_lt}
 use Rattle.std.specs.Option.{option_map}
 use Rattle.model.specs.FirstBest.{first_best}
 use Rattle.model.specs.Limits.{stops}

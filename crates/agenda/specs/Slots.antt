@@ -1,5 +1,5 @@
 -- What slots say of the stops: each stop has one, with a value in it or none. Assumes nothing.
-use Rattle.std.specs.Prelude.{◌≡◌, ℕ, ◌<◌, Bool, cond, List, [], ◌∷◌, length, get_or, Some, None, count_by, Option, ◌==◌, nat_eq, nat_lt, slice_index_or}
+use Rattle.std.specs.Prelude.{◌≡◌, ℕ, ◌<◌, cond, List, [], ◌∷◌, length, get_or, None, count_by, Option, ◌==◌, nat_eq, nat_lt, slice_index_or}
 use Rattle.std.specs.declared.cmp.Ordering.{Ordering}
 use Rattle.std.specs.Cmp.{IsTotalOrder}
 use Rattle.model.specs.Limits.{stops}
@@ -31,5 +31,5 @@ abbrev pub changed : {V : Type 0} → ℕ → Option V → (ℕ → Option V) �
 changed s value at = cond (nat_lt s stops) (updated s value at) at
 
 -- no slot is below its parent in the heap
-abbrev pub Placed : {V : Type 0} {R : Slot V → Slot V → Ordering → Type 0} → IsTotalOrder R → List (Slot V) → Type 0
+abbrev pub Placed : {V : Type 0} {R : Slot V → Slot V → Ordering} → IsTotalOrder R → List (Slot V) → Type 0
 Placed {V} o xs = (k : ℕ) (d : Slot V) → (0 < k) × (k < length xs) → AtMost o (slice_index_or xs (parent k) d) (slice_index_or xs k d)

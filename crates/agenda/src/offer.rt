@@ -1,9 +1,8 @@
 // A production as the panel ranks it: the greatest amount comes first.
-ghost use Rattle.std.specs.Prelude.{IsSomeAnd};
-ghost use Rattle.agenda.specs.Orders.{OfferOrder};
-ghost use Rattle.std.specs.Cmp.Rules.{comparing};
-ghost use Rattle.std.proofs.Common.{rules};
-ghost use Rattle.std.specs.Cmp as Keys;
+ghost use Rattle.std.specs.Prelude.{refl};
+ghost use Rattle.std.specs.Cmp.{eq_by_cmp_equiv, partial_equiv_from_equiv, partial_order_from_total};
+ghost use Rattle.std.specs.Ordering.{as_partial_cmp, eq_by_cmp};
+ghost use Rattle.agenda.specs.Orders.{offer_order, offer_total};
 
 use model::Production;
 use std::cmp::Ordering;
@@ -14,7 +13,9 @@ pub struct Offer {
 }
 
 impl PartialEq for Offer {
-    ghost laws = { Keys.partial_equiv_from_equiv (Prim.search (comparing, rules)) };
+    ghost eq = { eq_by_cmp offer_order };
+
+    ghost laws = { partial_equiv_from_equiv (eq_by_cmp_equiv offer_total) };
 
     fn eq(&self, other: &Offer) -> bool {
         self.cmp(other).is_eq()
@@ -22,13 +23,13 @@ impl PartialEq for Offer {
 }
 
 impl Eq for Offer {
-    ghost laws = { Prim.search (comparing, rules) };
+    ghost laws = { eq_by_cmp_equiv offer_total };
 }
 
 impl PartialOrd for Offer {
-    ghost compares = { λ x y r. IsSomeAnd r (λ o. OfferOrder x y o) };
+    ghost partial_cmp = { as_partial_cmp offer_order };
 
-    ghost laws = { Prim.search (comparing, rules) };
+    ghost laws = { partial_order_from_total offer_total };
 
     fn partial_cmp(&self, other: &Offer) -> Option<Ordering> {
         Some(self.cmp(other))
@@ -36,13 +37,13 @@ impl PartialOrd for Offer {
 }
 
 impl Ord for Offer {
-    ghost orders = { λ x y r. OfferOrder x y r };
+    ghost cmp = { offer_order };
 
-    ghost total = { Prim.search (comparing, rules) };
+    ghost total = { offer_total };
 
-    ghost matches_partial_cmp = { Prim.search (comparing, rules) };
+    ghost matches_partial_cmp = { λ _ _. refl };
 
-    ghost matches_eq = { Prim.search (comparing, rules) };
+    ghost matches_eq = { λ _ _. refl };
 
     fn cmp(&self, other: &Offer) -> Ordering {
         other.production.amount.cmp(&self.production.amount)

@@ -1,9 +1,8 @@
 // A stop's place in a heap of all stops: its value, if it has one.
-ghost use Rattle.std.specs.Prelude.{◌≡◌, IsSomeAnd};
-ghost use Rattle.agenda.specs.Orders.{Latest, SlotOrder};
-ghost use Rattle.std.specs.Cmp.Rules.{comparing};
-ghost use Rattle.std.proofs.Common.{rules};
-ghost use Rattle.std.specs.Cmp as Keys;
+ghost use Rattle.std.specs.Prelude.{◌≡◌, refl};
+ghost use Rattle.std.specs.Cmp.{eq_by_cmp_equiv, partial_equiv_from_equiv, partial_order_from_total};
+ghost use Rattle.std.specs.Ordering.{as_partial_cmp, eq_by_cmp};
+ghost use Rattle.agenda.specs.Orders.{late, slot_order, slot_total};
 
 use std::cmp::Ordering;
 
@@ -15,7 +14,7 @@ pub struct Slot<V> {
 
 // A value comes before none.
 fn latest<V: Ord>(a: &Option<V>, b: &Option<V>) -> Ordering
-    ensures { Latest (λ x' y' r'. r' ≡ V.Ord.cmp x' y') a.now b.now result }
+    ensures { result ≡ late V.cmp a.now b.now }
 {
     match (a, b) {
         (Some(x), Some(y)) => x.cmp(y),
@@ -26,7 +25,9 @@ fn latest<V: Ord>(a: &Option<V>, b: &Option<V>) -> Ordering
 }
 
 impl<V: Ord> PartialEq for Slot<V> {
-    ghost laws = { Keys.partial_equiv_from_equiv (Prim.search (comparing, rules)) };
+    ghost eq = { eq_by_cmp (slot_order V.cmp) };
+
+    ghost laws = { partial_equiv_from_equiv (eq_by_cmp_equiv (slot_total V.total)) };
 
     fn eq(&self, other: &Slot<V>) -> bool {
         self.cmp(other).is_eq()
@@ -34,13 +35,13 @@ impl<V: Ord> PartialEq for Slot<V> {
 }
 
 impl<V: Ord> Eq for Slot<V> {
-    ghost laws = { Prim.search (comparing, rules) };
+    ghost laws = { eq_by_cmp_equiv (slot_total V.total) };
 }
 
 impl<V: Ord> PartialOrd for Slot<V> {
-    ghost compares = { λ x y r. IsSomeAnd r (λ o. SlotOrder V.Ord.orders x y o) };
+    ghost partial_cmp = { as_partial_cmp (slot_order V.cmp) };
 
-    ghost laws = { Prim.search (comparing, rules) };
+    ghost laws = { partial_order_from_total (slot_total V.total) };
 
     fn partial_cmp(&self, other: &Slot<V>) -> Option<Ordering> {
         Some(self.cmp(other))
@@ -49,13 +50,13 @@ impl<V: Ord> PartialOrd for Slot<V> {
 
 // By the value, then by the stop.
 impl<V: Ord> Ord for Slot<V> {
-    ghost orders = { λ x y r. SlotOrder V.Ord.orders x y r };
+    ghost cmp = { slot_order V.cmp };
 
-    ghost total = { Prim.search (comparing, rules) };
+    ghost total = { slot_total V.total };
 
-    ghost matches_partial_cmp = { Prim.search (comparing, rules) };
+    ghost matches_partial_cmp = { λ _ _. refl };
 
-    ghost matches_eq = { Prim.search (comparing, rules) };
+    ghost matches_eq = { λ _ _. refl };
 
     fn cmp(&self, other: &Slot<V>) -> Ordering {
         match latest(&self.value, &other.value) {

@@ -1,6 +1,5 @@
 use Rattle.std.proofs.Common.{◌≡◌, ℕ, ◌<◌, length, get_or}
 use Rattle.agenda.specs.Slots.{empty_slot}
-use Rattle.agenda.specs.declared.slot.Slot.{Slot}
 use Rattle.agenda.proofs.slots.empty.Given as goal
 
 abbrev pub invariant-loop-i : goal.invariant-loop-i

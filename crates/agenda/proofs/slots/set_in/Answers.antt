@@ -8,10 +8,10 @@ use Rattle.agenda.proofs.slots.set_in.Goals as goal
 pub returns-in-Some : goal.returns-in-Some
 returns-in-Some g c =
     let xs = c.args.slots.now in
-    let ys = c.change-at.new.items in
+    let ys = c.change_at.new.items in
     let at = c.in-Some.at in
     let found = c.in-Some.ensures in
-    let e = c.change-at.ensures in
+    let e = c.change_at.ensures in
     let mid : List (Slot g.row.V.Denot) = set xs at (record { value = c.args.value; stop = c.args.stop }) in
     let one = λ (s : Single xs). single_set xs at c.args.stop c.args.value found.0 found.1 s in
     record {
@@ -20,10 +20,10 @@ returns-in-Some g c =
       held = λ s q l. held_shuffled mid ys e.shuffled (one s) q l ∙ held_set xs at c.args.stop c.args.value found.0 found.1 s q l;
     }
 
-pub returns-in-default : goal.returns-in-default
-returns-in-default g c =
+pub returns-in_default : goal.returns-in_default
+returns-in_default g c =
     record {
       heaped = λ o h. h;
       single = λ s. s;
-      held = λ s q l. held_absent c.args.slots.now c.args.stop c.args.value c.in-default.ensures s q l;
+      held = λ s q l. held_absent c.args.slots.now c.args.stop c.args.value c.in_default.ensures s q l;
     }

@@ -3,9 +3,8 @@ use Rattle.std.specs.Option.{option_map}
 use Rattle.std.specs.Ordering.{is_lt}
 use Rattle.model.specs.FirstBest.{first_best}
 use Rattle.model.specs.Limits.{stops}
-use Rattle.model.specs.declared.record.Production.{Production}
 use Rattle.agenda.specs.Meaning.{greatest, shown_at}
-use Rattle.agenda.specs.Orders.{slot_total, offer_total}
+use Rattle.agenda.specs.Orders.{offer_order, slot_total, offer_total}
 use Rattle.agenda.specs.Slots.{held_below, held}
 use Rattle.agenda.specs.declared.offer.Offer.{Offer}
 use Rattle.agenda.specs.declared.panel.Panel.{Panel}
@@ -14,11 +13,11 @@ use Rattle.agenda.proofs.Standing.{heaped, first_below, less_is}
 use Rattle.agenda.proofs.panel.Panel.first.Goals as goal
 
 -- from the first offer to the first production
-shown_first : (p : Panel) (r : Option (ℕ × Offer)) → r ≡ first_best (λ x y. is_lt (offer_total.cmp x y)) (held p.slots) stops →
+shown_first : (p : Panel) (r : Option (ℕ × Offer)) → r ≡ first_best (λ x y. is_lt (offer_order x y)) (held p.slots) stops →
     option_map (λ b. (b.0, b.1.production)) r ≡ greatest (shown_at p)
 shown_first p r h =
     ap (option_map (λ (b : ℕ × Offer). (b.0, b.1.production)))
-    (first_below (λ x y. is_lt (offer_total.cmp x y)) (λ x y. ltb y.production.amount x.production.amount) p.slots r
+    (first_below (λ x y. is_lt (offer_order x y)) (λ x y. ltb y.production.amount x.production.amount) p.slots r
     (λ x y. less_is y.production.amount x.production.amount) h)
     ∙ best_mapped (λ (o : Offer). o.production) (λ a b. ltb b.amount a.amount) (held_below p.slots) stops
 

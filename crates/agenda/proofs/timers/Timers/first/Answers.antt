@@ -8,5 +8,5 @@ use Rattle.agenda.proofs.timers.Timers.first.Goals as goal
 pub returns : goal.returns
 returns c =
     let self = c.args.self.now in
-    first_below (λ x y. is_lt (nat_cmp x y)) ltb self.slots c.first-in.result less_is
-    (c.first-in.ensures nat_cmp_total (heaped (slot_total nat_cmp_total) self.slots self.heaped) self.single)
+    first_below (λ x y. is_lt (nat_cmp x y)) ltb self.slots c.first_in.result less_is
+    (c.first_in.ensures nat_cmp_total (heaped (slot_total nat_cmp_total) self.slots self.heaped) self.single)

@@ -8,11 +8,15 @@ use Rattle.agenda.proofs.Fresh.{empty_single, empty_heaped, empty_held}
 use Rattle.agenda.proofs.Standing.{placed, none_below}
 use Rattle.agenda.proofs.timers.Timers.new.Goals as goal
 
-pub invariant-of-result : goal.invariant-of-result
-invariant-of-result c =
+pub invariant_of-result : goal.invariant_of-result
+invariant_of-result c =
     let xs = c.empty.result in
     let is = c.empty.ensures in
-    (ap length is ∙ length-map-range_with_len (empty_slot {V = ℕ}) 0 stops, (placed (slot_total nat_cmp_total) xs (empty_heaped ℕ nat_cmp_total stops xs is), (empty_single ℕ stops xs refl is, tt)))
+    record {
+      sized = ap length is ∙ length-map-range_with_len (empty_slot {V = ℕ}) 0 stops;
+      heaped = placed (slot_total nat_cmp_total) xs (empty_heaped ℕ nat_cmp_total stops xs is);
+      single = empty_single ℕ stops xs refl is;
+    }
 
 pub returns : goal.returns
 returns c = λ s. none_below c.empty.result s (empty_held ℕ stops c.empty.result s c.empty.ensures)

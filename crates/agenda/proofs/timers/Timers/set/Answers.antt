@@ -4,13 +4,17 @@ use Rattle.agenda.specs.Orders.{slot_total}
 use Rattle.agenda.proofs.Standing.{placed, heaped, changed_below}
 use Rattle.agenda.proofs.timers.Timers.set.Goals as goal
 
-pub invariant-of-self : goal.invariant-of-self
-invariant-of-self c =
-    let xs = c.args.self.now.slots in
-    let ys = c.set-in.new.slots in
-    let e = c.set-in.ensures in
-    (c.set-in.auto.slots ∙ c.args.self.now.sized, (placed (slot_total nat_cmp_total) ys (e.heaped nat_cmp_total (heaped (slot_total nat_cmp_total) xs c.args.self.now.heaped)), (e.single c.args.self.now.single, tt)))
+pub invariant_of-self : goal.invariant_of-self
+invariant_of-self c =
+    let self = c.args.self.now in
+    let ys = c.set_in.new.slots in
+    let e = c.set_in.ensures in
+    record {
+      sized = c.set_in.auto.slots ∙ self.sized;
+      heaped = placed (slot_total nat_cmp_total) ys (e.heaped nat_cmp_total (heaped (slot_total nat_cmp_total) self.slots self.heaped));
+      single = e.single self.single;
+    }
 
 pub returns : goal.returns
 returns c =
-    changed_below c.args.self.now.slots c.set-in.new.slots c.args.stop c.args.due (c.set-in.ensures.held c.args.self.now.single)
+    changed_below c.args.self.now.slots c.set_in.new.slots c.args.stop c.args.due (c.set_in.ensures.held c.args.self.now.single)
