@@ -1,5 +1,5 @@
 -- Entries of one size, one after another in a row's bytes: written and read in a loop.
-use Rattle.std.proofs.Common.{◌≡◌, ℕ, ◌+◌, ◌*◌, ◌<◌, ◌≤◌, min, Bool, true, false, cond, ltb, List, [], ◌∷◌, ◌++◌, map, length, get_or, take, drop, sym, refl, ap, ◌∙◌, subst, add_comm, mul-zero, mul-one, mul-suc, mul-add, arith, lt-ltb}
+use Rattle.std.proofs.Common.{◌≡◌, ℕ, ◌+◌, ◌*◌, ◌<◌, ◌≤◌, Bool, true, cond, ltb, List, [], ◌∷◌, ◌++◌, map, length, get_or, take, sym, refl, ap, ◌∙◌, add_comm, mul-zero, mul-one, mul-suc, mul-add, arith, lt-ltb}
 use lib.Seq.{paste}
 use Rattle.std.specs.List.{range_with_len, flat_map}
 use Rattle.std.proofs.lemmas.List.{take_more, take_all, length-take-le, length-append, flat_map_more}

@@ -1,5 +1,5 @@
 -- Where each field of a row stands in its bytes, and that a row is read back from them.
-use Rattle.std.proofs.Common.{◌≡◌, ℕ, suc, ◌+◌, ◌-◌, ◌*◌, ◌^◌, ◌<◌, ◌≤◌, min, List, [], ◌∷◌, ◌++◌, map, length, get_or, take, drop, replicate, sym, refl, ap, ◌∙◌, subst, arith}
+use Rattle.std.proofs.Common.{◌≡◌, ℕ, suc, ◌+◌, ◌-◌, ◌*◌, ◌<◌, ◌≤◌, min, List, [], ◌∷◌, ◌++◌, map, length, get_or, take, drop, replicate, sym, refl, ap, ◌∙◌, arith}
 use lib.Seq.{paste}
 use Rattle.std.specs.List.{range_with_len, flat_map}
 use Rattle.std.proofs.lemmas.List.FromFn.{fill_by_all}
@@ -8,8 +8,8 @@ use Rattle.model.specs.Limits.{most_pending, most_names, page_bytes}
 use Rattle.model.specs.Row.{Row}
 use Rattle.model.specs.declared.record.Name.{Name}
 use Rattle.model.specs.declared.record.Production.{Production}
-use Rattle.model.specs.Bytes.{u16_bytes, u32_bytes, u16_at, u32_at}
-use Rattle.rows.specs.Layout.{encoded, padded, pending_bytes, name_bytes, pending_size, name_size, state_at, pending_at, names_at, rest_at, RowFits, PendingFits, NameFits}
+use Rattle.model.specs.Bytes.{u32_bytes, u16_at, u32_at}
+use Rattle.rows.specs.Layout.{encoded, padded, pending_bytes, name_bytes, pending_size, name_size, state_at, pending_at, names_at, rest_at, RowFits}
 use Rattle.rows.specs.Reading.{row_in, pending_in, names_in, production_in, name_in, LaidOut}
 use Rattle.rows.proofs.EntryLoops.{length-joined}
 use Rattle.rows.proofs.Encoding.{length-padded, padded_full, over_zeros}

@@ -3,7 +3,7 @@ use Rattle.std.proofs.Common.{◌≡◌, ℕ, ◌-◌, ◌^◌, ◌<◌, List, [
 use lib.Seq.{paste}
 use Rattle.model.specs.Limits.{page_bytes}
 use Rattle.model.specs.Bytes.{u32_bytes, u32_at}
-use Rattle.rows.specs.Layout.{encoded_watermark, padded}
+use Rattle.rows.specs.Layout.{encoded_watermark}
 use Rattle.rows.proofs.Encoding.{over_zeros, padded_full}
 use Rattle.rows.proofs.Places.{u32_at-from}
 

@@ -1,13 +1,8 @@
 -- The steps by which a stop's row changes. Assumes nothing.
-use Rattle.std.specs.Prelude.{ℕ, ◌+◌, Bool, cond, eqb, ltb, leb, List, [], ◌∷◌, ◌++◌, length, drop, Some, None, filter, Option}
-use Rattle.model.specs.Answers.{answer_number}
-use Rattle.model.specs.Limits.{most_pending, most_names, last_serial}
+use Rattle.std.specs.Prelude.{ℕ, ◌+◌, List, [], ◌∷◌, ◌++◌, length}
 use Rattle.model.specs.Names.{kept}
 use Rattle.model.specs.Row.{Row}
-use Rattle.model.specs.declared.answer.Answer.{Answer}
-use Rattle.model.specs.declared.answer.Answer.TheVariants.{Done, Over, NoRoom}
 use Rattle.model.specs.declared.record.Name.{Name}
-use Rattle.model.specs.declared.record.Production.{Production}
 
 -- how many names of a row stay for a floor
 abbrev pub staying : ℕ → Row → ℕ

@@ -1,5 +1,5 @@
 -- The 512 bytes of a row, field after field as they stand in it. Assumes nothing.
-use Rattle.std.specs.Prelude.{◌≡◌, ℕ, ◌+◌, ◌-◌, ◌*◌, ◌^◌, ◌<◌, ◌≤◌, List, [], ◌∷◌, ◌++◌, length, replicate, slice_index_or}
+use Rattle.std.specs.Prelude.{ℕ, ◌+◌, ◌-◌, ◌*◌, ◌^◌, ◌<◌, ◌≤◌, List, [], ◌∷◌, ◌++◌, length, replicate, slice_index_or}
 use Rattle.std.specs.List.{flat_map}
 use Rattle.model.specs.Computation.{StateBytes}
 use Rattle.model.specs.Limits.{most_pending, most_names, page_bytes}

@@ -1,5 +1,5 @@
 -- What stands at each place of a row's bytes. Assumes nothing.
-use Rattle.std.specs.Prelude.{◌≡◌, ℕ, ◌+◌, ◌*◌, ◌<◌, ◌≤◌, min, List, map, length, get_or, take, drop, slice_index, slice_index_or}
+use Rattle.std.specs.Prelude.{◌≡◌, ℕ, ◌+◌, ◌*◌, ◌<◌, ◌≤◌, min, List, map, length, take, drop, slice_index, slice_index_or}
 use Rattle.std.specs.List.{range_with_len}
 use Rattle.model.specs.Limits.{most_pending, most_names, page_bytes}
 use Rattle.model.specs.Row.{Row}
@@ -29,13 +29,13 @@ row_in bs = record { next = u32_at bs 0; state = take 32 (drop state_at bs); pen
 pub record LaidOut (r : Row) (bs : List ℕ) : Type 0 where
   pub size : length bs ≡ page_bytes
   pub next : u32_at bs 0 ≡ r.next
-  pub pending_count : get_or bs 4 0 ≡ length r.pending
-  pub name_count : get_or bs 5 0 ≡ length r.names
+  pub pending_count : slice_index bs 4 ≡ length r.pending
+  pub name_count : slice_index bs 5 ≡ length r.names
   pub state : take 32 (drop state_at bs) ≡ r.state
   pub pending : (i : ℕ) (d : Production) → i < length r.pending → production_in bs (pending_at + pending_size * i) ≡ slice_index_or r.pending i d
   pub names : (i : ℕ) (d : Name) → i < length r.names → name_in bs (names_at + name_size * i) ≡ slice_index_or r.names i d
-  pub zero_6 : get_or bs 6 0 ≡ 0
-  pub zero_7 : get_or bs 7 0 ≡ 0
+  pub zero_6 : slice_index bs 6 ≡ 0
+  pub zero_7 : slice_index bs 7 ≡ 0
   pub amounts_short : (i : ℕ) → i < length r.pending → u16_at bs (pending_at + pending_size * i + 10) ≡ 0
   pub zero_behind_pending : (i : ℕ) → pending_at + pending_size * length r.pending ≤ i → i < names_at → slice_index bs i ≡ 0
   pub zero_behind_names : (i : ℕ) → names_at + name_size * length r.names ≤ i → slice_index bs i ≡ 0

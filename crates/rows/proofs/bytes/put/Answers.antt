@@ -7,5 +7,5 @@ returns c =
     record {
       small = search rules;
       after = put_mid-paste c.args.at _ c.args.out.now _ c.args.part.now (length c.args.part.now)
-          c.copy-from-slice.ensures.after (omega arith) refl;
+          c.copy_from_slice.ensures.after (omega arith) refl;
     }

@@ -1,4 +1,4 @@
-use Rattle.std.proofs.Common.{◌≡◌, ◌+◌, ◌*◌, min, get_or, arith}
+use Rattle.std.proofs.Common.{◌+◌, ◌*◌, min, get_or, arith}
 use Rattle.model.specs.Limits.{most_names}
 use Rattle.rows.specs.Layout.{names_at, name_size}
 use Rattle.rows.specs.Reading.{name_in, names_in}
@@ -7,8 +7,8 @@ use Rattle.rows.proofs.entries.names_in.Goals as goal
 
 pub loop-i-preserved : goal.loop-i-preserved
 loop-i-preserved c =
-    read_more (λ i. name_in c.args.bytes.now (names_at + name_size * i)) 40 c.loop-i.i _ _ c.push.result c.name-at.result (omega arith)
-    c.name-at.ensures c.push.ensures.room c.push.ensures.items c.loop-i.invariant
+    read_more (λ i. name_in c.args.bytes.now (names_at + name_size * i)) 40 c.loop-i.i _ _ c.push.result c.name_at.result (omega arith)
+    c.name_at.ensures c.push.ensures.room c.push.ensures.items c.loop-i.invariant
 
 pub returns : goal.returns
 unfolding names_in

@@ -1,4 +1,4 @@
-use Rattle.std.proofs.Common.{ℕ, ◌<◌, get_or, refl, subst, arith, below_none, below_more}
+use Rattle.std.proofs.Common.{get_or, refl, subst, arith, below_more}
 use Rattle.std.proofs.lemmas.List.{get_or_default}
 use Rattle.model.specs.declared.record.Name.{Name}
 use Rattle.rows.specs.Layout.{name_bytes, names_at, name_size, NameFits}
@@ -14,9 +14,9 @@ loop-i-init c = (λ k h. absurd (omega arith), put_none name_bytes name_size (λ
 pub loop-i-preserved : goal.loop-i-preserved
 unfolding none
 loop-i-preserved c = (
-  below_more (λ k. NameFits (get_or c.args.names.now k none)) c.loop-i.i c.loop-i.invariant.0 c.name-bytes.ensures.fits,
+  below_more (λ k. NameFits (get_or c.args.names.now k none)) c.loop-i.i c.loop-i.invariant.0 c.name_bytes.ensures.fits,
   put_more name_bytes name_size (λ x. refl) names_at c.args.out.now c.put.new.out c.loop-i.out c.args.names.now c.loop-i.i
-      none c.name-bytes.result c.loop-i-test.true (omega arith) c.name-bytes.ensures.bytes c.loop-i.invariant.1 c.put.ensures.after,
+      none c.name_bytes.result c.loop-i-test.true (omega arith) c.name_bytes.ensures.bytes c.loop-i.invariant.1 c.put.ensures.after,
 )
 
 pub returns : goal.returns

@@ -1,7 +1,6 @@
 use Rattle.std.proofs.Common.{◌≡◌, ℕ, ◌*◌, ◌<◌, get_or, take}
 use lib.Seq.{paste}
 use Rattle.std.specs.List.{flat_map}
-use Rattle.model.specs.declared.record.Name.{Name}
 use Rattle.rows.specs.Layout.{name_bytes, names_at, name_size, NameFits}
 use Rattle.rows.proofs.entries.put_names.Given as goal
 

@@ -1,4 +1,4 @@
-use Rattle.std.proofs.Common.{ℕ, ◌<◌, get_or, refl, subst, arith, below_none, below_more}
+use Rattle.std.proofs.Common.{get_or, refl, subst, arith, below_more}
 use Rattle.std.proofs.lemmas.List.{get_or_default}
 use Rattle.model.specs.declared.record.Production.{Production}
 use Rattle.rows.specs.Layout.{pending_bytes, pending_at, pending_size, PendingFits}
@@ -14,9 +14,9 @@ loop-i-init c = (λ k h. absurd (omega arith), put_none pending_bytes pending_si
 pub loop-i-preserved : goal.loop-i-preserved
 unfolding none
 loop-i-preserved c = (
-  below_more (λ k. PendingFits (get_or c.args.pending.now k none)) c.loop-i.i c.loop-i.invariant.0 c.pending-bytes.ensures.fits,
+  below_more (λ k. PendingFits (get_or c.args.pending.now k none)) c.loop-i.i c.loop-i.invariant.0 c.pending_bytes.ensures.fits,
   put_more pending_bytes pending_size (λ x. refl) pending_at c.args.out.now c.put.new.out c.loop-i.out c.args.pending.now c.loop-i.i
-      none c.pending-bytes.result c.loop-i-test.true (omega arith) c.pending-bytes.ensures.bytes c.loop-i.invariant.1 c.put.ensures.after,
+      none c.pending_bytes.result c.loop-i-test.true (omega arith) c.pending_bytes.ensures.bytes c.loop-i.invariant.1 c.put.ensures.after,
 )
 
 pub returns : goal.returns

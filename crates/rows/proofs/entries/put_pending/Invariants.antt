@@ -1,7 +1,6 @@
 use Rattle.std.proofs.Common.{◌≡◌, ℕ, ◌*◌, ◌<◌, get_or, take}
 use lib.Seq.{paste}
 use Rattle.std.specs.List.{flat_map}
-use Rattle.model.specs.declared.record.Production.{Production}
 use Rattle.rows.specs.Layout.{pending_bytes, pending_at, pending_size, PendingFits}
 use Rattle.rows.proofs.entries.put_pending.Given as goal
 

@@ -1,7 +1,6 @@
 use Rattle.std.proofs.Common.{◌≡◌, Some, sym, ap, ◌∙◌, true≢false}
 use Rattle.std.proofs.lemmas.Slice.Eq.{slice_eq-Decides}
-use Rattle.model.specs.Row.{Row}
-use Rattle.rows.specs.Layout.{encoded, RowFits}
+use Rattle.rows.specs.Layout.{encoded}
 use Rattle.rows.specs.Meaning.{row_of}
 use Rattle.rows.specs.Reading.{row_in}
 use Rattle.rows.proofs.RowBytes.{row_back}

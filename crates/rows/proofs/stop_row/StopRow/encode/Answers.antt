@@ -1,4 +1,4 @@
-use Rattle.std.proofs.Common.{◌≡◌, ℕ, sym, refl, ap, ◌∙◌, subst, arith}
+use Rattle.std.proofs.Common.{◌≡◌, sym, refl, ◌∙◌, subst}
 use Rattle.model.specs.Limits.{page_bytes}
 use Rattle.model.specs.Row.{Row}
 use Rattle.rows.specs.Layout.{encoded, RowFits}
@@ -10,28 +10,28 @@ use Rattle.rows.proofs.stop_row.StopRow.encode.Goals as goal
 pub returns : goal.returns
 returns c =
     let row : Row =
-    record { next = c.args.self.now.next; state = c.args.self.now.state; pending = c.as-slice-pending.result.now; names = c.as-slice-names.result.now } in
+    record { next = c.args.self.now.next; state = c.args.self.now.state; pending = c.as_slice-pending.result.now; names = c.as_slice-names.result.now } in
     let same : row ≡ row_of c.args.self.now =
     λ k. record {
       next = c.args.self.now.next;
       state = c.args.self.now.state;
-      pending = c.as-slice-pending.ensures.value k;
-      names = c.as-slice-names.ensures.value k;
+      pending = c.as_slice-pending.ensures.value k;
+      names = c.as_slice-names.ensures.value k;
     } in
-    let out = c.put-names.new.out in
+    let out = c.put_names.new.out in
     let fits : RowFits row =
     record {
       next = c.head.ensures.fits;
       state = record { size = c.args.self.now.sized; small = c.put-2.ensures.small };
-      few_pending = c.as-slice-pending.ensures.bound;
-      few_names = c.as-slice-names.ensures.bound;
-      pending = c.put-pending.ensures.fits;
-      names = c.put-names.ensures.fits;
+      few_pending = c.as_slice-pending.ensures.bound;
+      few_names = c.as_slice-names.ensures.bound;
+      pending = c.put_pending.ensures.fits;
+      names = c.put_names.ensures.fits;
     } in
     let bytes : out ≡ encoded row =
-    encoded_by row page_bytes _ c.head.result c.put.new.out c.put-2.new.out c.put-pending.new.out out refl c.args.self.now.sized
-    c.as-slice-pending.ensures.bound c.as-slice-names.ensures.bound refl c.head.ensures.bytes c.put.ensures.after
-    c.put-2.ensures.after c.put-pending.ensures.after c.put-names.ensures.after in
+    encoded_by row page_bytes _ c.head.result c.put.new.out c.put-2.new.out c.put_pending.new.out out refl c.args.self.now.sized
+    c.as_slice-pending.ensures.bound c.as_slice-names.ensures.bound refl c.head.ensures.bytes c.put.ensures.after
+    c.put-2.ensures.after c.put_pending.ensures.after c.put_names.ensures.after in
     record {
       bytes = subst (λ (r : Row). out ≡ encoded r) same bytes;
       fits = subst RowFits same fits;

@@ -14,17 +14,17 @@ pub loop-name-preserved : goal.loop-name-preserved
 unfolding none
 loop-name-preserved c =
     let floor = c.args.floor in
-    let names = c.as-slice-names.result.now in
+    let names = c.as_slice-names.result.now in
     let i = c.loop-name.name-index in
     elim c.if-name-floor.branch [
       | then-name-floor w ↦
           ap listed w.list-is
           ∙ push_yes floor names i none c.loop-name-test.true 40 _ _ w.push.result c.loop-name.invariant w.push.ensures.room
-          w.push.ensures.items c.as-slice-names.ensures.bound w.if-name-floor.true
+          w.push.ensures.items c.as_slice-names.ensures.bound w.if-name-floor.true
       | else-name-floor w ↦ ap listed w.list-is ∙ c.loop-name.invariant ∙ sym (kept_no floor names i none c.loop-name-test.true w.if-name-floor.false)
     ]
 
 pub returns : goal.returns
 returns c =
-    let all = take_all c.loop-name.name-index c.as-slice-names.result.now c.loop-name-test.false in
-    c.loop-name.invariant ∙ ap (kept c.args.floor) (all ∙ c.as-slice-names.ensures.value)
+    let all = take_all c.loop-name.name-index c.as_slice-names.result.now c.loop-name-test.false in
+    c.loop-name.invariant ∙ ap (kept c.args.floor) (all ∙ c.as_slice-names.ensures.value)

@@ -13,7 +13,7 @@ pub loop-name-preserved : goal.loop-name-preserved
 unfolding none
 loop-name-preserved c =
     let floor = c.args.floor in
-    let names = c.as-slice-names.result.now in
+    let names = c.as_slice-names.result.now in
     let i = c.loop-name.name-index in
     elim c.if-floor-name.branch [
       | then-floor-name w ↦ (
@@ -28,5 +28,5 @@ loop-name-preserved c =
 
 pub returns : goal.returns
 returns c =
-    let all = take_all c.loop-name.name-index c.as-slice-names.result.now c.loop-name-test.false in
-    c.loop-name.invariant.1 ∙ ap (λ ns. length (kept c.args.floor ns)) (all ∙ c.as-slice-names.ensures.value)
+    let all = take_all c.loop-name.name-index c.as_slice-names.result.now c.loop-name-test.false in
+    c.loop-name.invariant.1 ∙ ap (λ ns. length (kept c.args.floor ns)) (all ∙ c.as_slice-names.ensures.value)

@@ -1,4 +1,4 @@
-use Rattle.std.proofs.Common.{◌≡◌, Some, ap, ◌∙◌}
+use Rattle.std.proofs.Common.{Some, ap, ◌∙◌}
 use Rattle.rows.specs.Edits.{staying}
 use Rattle.rows.specs.Meaning.{row_of}
 use Rattle.rows.proofs.Keeping.{some_same}
