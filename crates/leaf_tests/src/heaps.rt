@@ -32,7 +32,7 @@ fn a_heap_gives_a_sorted_copy(rt: HostRuntime) {
         let mut items = [0u32; 40];
         fill(&mut items, &mut random);
         let mut sorted = items;
-        sorted.sort();
+        sorted.sort_unstable();
         build(&mut items);
         assert!(rt; comes_out_as(&mut items, &sorted));
     }
