@@ -1,5 +1,5 @@
 -- What is answered of a line, by what was found of it.
-use Rattle.std.proofs.Common.{◌≡◌, ℕ, true, false, cond, eqb, List, length, Some, None, Ok, Err, Option, Result, sym, refl, ap, ◌∙◌}
+use Rattle.std.proofs.Common.{◌≡◌, ℕ, true, false, cond, eqb, List, length, Some, None, Ok, Err, Option, Result, sym, ap, ◌∙◌}
 use Rattle.std.proofs.lemmas.Bool.{cond-true, cond-false}
 use Rattle.model.specs.declared.call.Call.{Call}
 use Rattle.frames.specs.declared.kind.Kind.{Kind}
@@ -19,11 +19,11 @@ pub record Said (line : List ℕ) (a : Result (Option Call) (List ℕ × Wanted)
 promised : (line : List ℕ) (a : Result (Option Call) (List ℕ × Wanted)) → a ≡ parsed line → Said line a
 promised line a e = record { says = e; back = λ c h is. e ∙ ap parsed is ∙ said_back c h }
 
-module _ (line word rest : List ℕ) (is_IsWord : word ≡ word_of line) (is-rest : rest ≡ rest_of line) where
+module _ (line word rest : List ℕ) (is_word_of : word ≡ word_of line) (is_rest : rest ≡ rest_of line) where
   found : parsed line ≡ cond (eqb (length word) 0) (Ok None) (parsed_as word rest (kind_named word))
   found =
-      ap (λ w. cond (eqb (length w) 0) (Ok None) (parsed_as w (rest_of line) (kind_named w))) (sym is_IsWord)
-      ∙ ap (λ t. cond (eqb (length word) 0) (Ok None) (parsed_as word t (kind_named word))) (sym is-rest)
+      ap (λ w. cond (eqb (length w) 0) (Ok None) (parsed_as w (rest_of line) (kind_named w))) (sym is_word_of)
+      ∙ ap (λ t. cond (eqb (length word) 0) (Ok None) (parsed_as word t (kind_named word))) (sym is_rest)
 
   pub no_words : eqb (length word) 0 ≡ true → Said line (Ok None)
   no_words e = promised line (Ok None) (sym (found ∙ cond-true (eqb (length word) 0) (Ok None) _ e))
@@ -39,15 +39,15 @@ module _ (line word rest : List ℕ) (is_IsWord : word ≡ word_of line) (is-res
       pub broken : (e : List ℕ × Wanted) → t ≡ Err e → Said line (Err e)
       broken e b = promised line (Err e) (sym (by_kind ∙ ap ended b))
 
-      module _ (c : Call) (after next : List ℕ) (read : t ≡ Ok (c, after)) (is-next : next ≡ word_of after) where
+      module _ (c : Call) (after next : List ℕ) (read : t ≡ Ok (c, after)) (is_next : next ≡ word_of after) where
         pub more_words : eqb (length next) 0 ≡ false → Said line (Err (next, wanted.End))
         more_words e =
             promised line (Err (next, wanted.End)) (sym (by_kind ∙ ap ended read
-            ∙ ap (λ w. cond (eqb (length w) 0) (Ok (Some c)) (Err (w, wanted.End))) (sym is-next)
+            ∙ ap (λ w. cond (eqb (length w) 0) (Ok (Some c)) (Err (w, wanted.End))) (sym is_next)
             ∙ cond-false (eqb (length next) 0) (Ok (Some c)) (Err (next, wanted.End)) e))
 
         pub whole : eqb (length next) 0 ≡ true → Said line (Ok (Some c))
         whole e =
             promised line (Ok (Some c)) (sym (by_kind ∙ ap ended read
-            ∙ ap (λ w. cond (eqb (length w) 0) (Ok (Some c)) (Err (w, wanted.End))) (sym is-next)
+            ∙ ap (λ w. cond (eqb (length w) 0) (Ok (Some c)) (Err (w, wanted.End))) (sym is_next)
             ∙ cond-true (eqb (length next) 0) (Ok (Some c)) (Err (next, wanted.End)) e))

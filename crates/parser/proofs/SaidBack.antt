@@ -1,17 +1,14 @@
 -- The line that is printed of a call says that call.
-use Rattle.std.proofs.Common.{◌≡◌, ℕ, true, cond, eqb, List, [], ◌∷◌, ◌++◌, length, Some, None, Ok, Err, codes, decimal, Option, Result, sym, refl, ap, ◌∙◌}
+use Rattle.std.proofs.Common.{◌≡◌, ℕ, true, cond, eqb, List, [], ◌∷◌, ◌++◌, length, Some, None, Ok, codes, decimal, sym, refl, ap, ◌∙◌}
 use Rattle.std.proofs.lemmas.List.{append-nil}
 use Rattle.std.specs.List.{prefix_len}
 use Rattle.model.specs.declared.call.Call.{Call}
 use Rattle.model.specs.declared.call.Call.TheVariants.{HandIn, Advance, Fire, Send, Lose, Repeat, Deliver, Pass, Restart, Show, MarkDone}
 use Rattle.model.specs.declared.call.Junk.TheVariants as junk
-use Rattle.frames.specs.declared.kind.Kind.{Kind}
-use Rattle.frames.specs.declared.kind.Kind.TheVariants as kind
 use Rattle.lines.specs.Lines.{line_of}
 use Rattle.parser.specs.declared.field.Field.TheVariants as field
-use Rattle.parser.specs.declared.words.Wanted.{Wanted}
 use Rattle.parser.specs.Lines.{Sayable}
-use Rattle.parser.specs.Parsed.{Took, and_then, call_from, ended, kind_named, parsed, parsed_as}
+use Rattle.parser.specs.Parsed.{Took, and_then, ended, kind_named, parsed, parsed_as}
 use Rattle.parser.specs.Words.{solid, word_of, rest_of}
 use Rattle.parser.proofs.Spoken.{is_word, named_reads, rest_is, value_reads, word_is}
 

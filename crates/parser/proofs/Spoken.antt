@@ -1,8 +1,8 @@
 -- What is printed of a call is read back: the words of a line, its numbers, and so the call.
-use Rattle.std.proofs.Common.{◌≡◌, ℕ, zero, suc, ◌+◌, ◌-◌, ◌*◌, ◌/◌, ◌%◌, ◌^◌, ◌<◌, ◌≤◌, Bool, true, false, cond, not, ◌&&◌, eqb, ltb, leb, List, [], ◌∷◌, ◌++◌, length, take, drop, Some, None, Ok, Err, codes, decimal, Option, Result, sym, refl, ap, ◌∙◌, arith}
-use Rattle.std.proofs.lemmas.Fmt.{decimal_by_steps, decimal_nonempty}
+use Rattle.std.proofs.Common.{◌≡◌, ℕ, suc, ◌+◌, ◌-◌, ◌*◌, ◌/◌, ◌%◌, ◌^◌, ◌<◌, ◌≤◌, Bool, true, false, ◌&&◌, leb, List, [], ◌∷◌, ◌++◌, length, take, drop, Some, None, Ok, Err, decimal, sym, refl, ap, ◌∙◌, arith}
+use Rattle.std.proofs.lemmas.Fmt.{decimal_by_steps}
 use Rattle.std.proofs.lemmas.Slice.Eq.{bytes_eq-Decides}
-use Rattle.std.proofs.lemmas.List.{append-nil, append_assoc, drop_at, take_at}
+use Rattle.std.proofs.lemmas.List.{drop_at, take_at}
 use Rattle.std.proofs.lemmas.Bool.{and_from, and_parts, cond-true, cond-false, le-leb}
 use Rattle.std.proofs.lemmas.Bool.Decides.{nat_tests}
 use Rattle.std.specs.Char.{is_ascii_digit}
@@ -13,7 +13,7 @@ use Rattle.parser.specs.declared.field.Field.TheVariants.{Sender, Stop, Serial, 
 use Rattle.parser.specs.declared.words.Wanted.TheVariants as wanted
 use Rattle.parser.specs.Fields.{field_name, most_of}
 use Rattle.parser.specs.Numerals.{number_from, number_of}
-use Rattle.parser.specs.Parsed.{Took, named_from, numbered, value_from}
+use Rattle.parser.specs.Parsed.{named_from, numbered, value_from}
 use Rattle.parser.specs.Words.{blank, from_word, rest_of, solid, word_of}
 
 -- a word: at least one byte, and each solid

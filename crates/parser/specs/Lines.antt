@@ -1,5 +1,5 @@
 -- Which calls a line can say: every call whose numbers fit their fields and whose junk is one byte throughout. Assumes nothing.
-use Rattle.std.specs.Prelude.{ℕ, ◌≤◌}
+use Rattle.std.specs.Prelude.{◌≤◌}
 use Rattle.model.specs.declared.call.Call.{Call}
 use Rattle.model.specs.declared.call.Call.TheVariants.{HandIn, Advance, Fire, Send, Lose, Repeat, Deliver, Pass, Restart, Show, MarkDone}
 use Rattle.model.specs.declared.call.Junk.TheVariants.{Fill, Page}

@@ -1,14 +1,14 @@
-use Rattle.std.proofs.Common.{◌≡◌, ◌+◌, ◌-◌, ◌*◌, ◌<◌, ◌≤◌, get_or, drop, sym, refl, ap, ◌∙◌, arith}
+use Rattle.std.proofs.Common.{◌+◌, ◌-◌, ◌*◌, ◌≤◌, get_or, drop, sym, ap, ◌∙◌, arith}
 use Rattle.std.proofs.lemmas.List.{at_drop_all}
-use Rattle.parser.specs.Numerals.{number_from, number_of}
+use Rattle.parser.specs.Numerals.{number_from}
 use Rattle.parser.proofs.Digits.{no_digit, too_large, reads_on}
 use Rattle.parser.proofs.numeral.numeral.Goals as goal
 
-pub returns-then-not-is-ascii-digit : goal.returns-then-not-is-ascii-digit
-returns-then-not-is-ascii-digit c = record {
+pub returns-then-not-is_ascii_digit : goal.returns-then-not-is_ascii_digit
+returns-then-not-is_ascii_digit c = record {
   value =
       sym (c.loop-byte.invariant.1 ∙ no_digit c.args.most c.loop-byte.number c.args.word.now c.loop-byte.byte-index c.loop-byte-test.true
-      (sym c.if-not-is-ascii-digit.ensures.value));
+      (sym c.if-not-is_ascii_digit.ensures.value));
   within = tt;
 }
 
@@ -16,7 +16,7 @@ pub returns-then-number-from : goal.returns-then-number-from
 returns-then-number-from c = record {
   value =
       sym (c.loop-byte.invariant.1 ∙ too_large c.args.most c.loop-byte.number c.args.word.now c.loop-byte.byte-index c.loop-byte-test.true
-      (sym c.if-not-is-ascii-digit.ensures.value) (omega arith));
+      (sym c.if-not-is_ascii_digit.ensures.value) (omega arith));
   within = tt;
 }
 
@@ -27,7 +27,7 @@ loop-byte-preserved c =
     let word = c.args.word.now in
     let fits : n * 10 + (get_or word i 0 - 48) ≤ c.args.most = omega arith in (
       omega arith,
-      c.loop-byte.invariant.1 ∙ reads_on c.args.most n word i c.loop-byte-test.true (sym c.if-not-is-ascii-digit.ensures.value) fits
+      c.loop-byte.invariant.1 ∙ reads_on c.args.most n word i c.loop-byte-test.true (sym c.if-not-is_ascii_digit.ensures.value) fits
           ∙ ap (λ d. number_from c.args.most (n * 10 + d) (drop (i + 1) word)) (sym c.from.ensures),
     )
 

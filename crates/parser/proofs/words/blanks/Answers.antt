@@ -4,11 +4,11 @@ use Rattle.parser.proofs.Fronts.{one_more, stops, ends}
 use Rattle.parser.proofs.words.blanks.Goals as goal
 
 pub loop-n-preserved : goal.loop-n-preserved
-loop-n-preserved c = one_more blank c.args.text.now c.loop-n.n c.loop-n.invariant c.loop-n-test.true (sym c.if-is-blank.ensures)
+loop-n-preserved c = one_more blank c.args.text.now c.loop-n.n c.loop-n.invariant c.loop-n-test.true (sym c.if-is_blank.ensures)
 
-pub returns-else-is-blank : goal.returns-else-is-blank
-returns-else-is-blank c = record {
-  value = stops blank c.args.text.now c.loop-n.n c.loop-n.invariant c.loop-n-test.true (sym c.if-is-blank.ensures);
+pub returns-else-is_blank : goal.returns-else-is_blank
+returns-else-is_blank c = record {
+  value = stops blank c.args.text.now c.loop-n.n c.loop-n.invariant c.loop-n-test.true (sym c.if-is_blank.ensures);
   within = c.loop-n.invariant.0;
 }
 

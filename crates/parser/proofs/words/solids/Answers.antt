@@ -4,11 +4,11 @@ use Rattle.parser.proofs.Fronts.{one_more, stops, ends}
 use Rattle.parser.proofs.words.solids.Goals as goal
 
 pub loop-n-preserved : goal.loop-n-preserved
-loop-n-preserved c = one_more solid c.args.text.now c.loop-n.n c.loop-n.invariant c.loop-n-test.true (sym c.if-is-solid.ensures)
+loop-n-preserved c = one_more solid c.args.text.now c.loop-n.n c.loop-n.invariant c.loop-n-test.true (sym c.if-is_solid.ensures)
 
-pub returns-else-is-solid : goal.returns-else-is-solid
-returns-else-is-solid c = record {
-  value = stops solid c.args.text.now c.loop-n.n c.loop-n.invariant c.loop-n-test.true (sym c.if-is-solid.ensures);
+pub returns-else-is_solid : goal.returns-else-is_solid
+returns-else-is_solid c = record {
+  value = stops solid c.args.text.now c.loop-n.n c.loop-n.invariant c.loop-n-test.true (sym c.if-is_solid.ensures);
   within = c.loop-n.invariant.0;
 }
 
