@@ -1,5 +1,5 @@
 -- A frame always has room in the longest frame's.
-use Rattle.std.proofs.Common.{◌≡◌, ℕ, ◌<◌, ◌≤◌, Bool, true, false, cond, ltb, List, [], ◌∷◌, ◌++◌, length, take, drop, is_ok, is_err, IfOk, Some, None, Ok, Err, Option, Result, unwrap_or, sym, refl, ap, ◌∙◌, arith}
+use Rattle.std.proofs.Common.{◌≡◌, ℕ, ◌≤◌, Bool, true, false, cond, ltb, List, [], ◌++◌, length, take, drop, is_ok, is_err, IfOk, Some, None, Ok, Err, Option, Result, unwrap_or, refl, ap, ◌∙◌, arith}
 use Rattle.std.proofs.lemmas.List.{take_at}
 use Rattle.std.proofs.lemmas.Bool.{ltb-true}
 use Rattle.model.specs.declared.answer.Fault.{Fault}
@@ -48,9 +48,9 @@ refused None room fault l e = refl
 refused (Some frame) room fault l e = refused_some frame room fault (ltb room (length frame)) refl l e
 
 -- what an `Ok` says of a list that grew or stayed
-pub if_grown : {X Y : Type 0} (r : Result X Y) (now-is grown stayed : List ℕ) → now-is ≡ cond (is_ok r) grown stayed → IfOk r (λ _. now-is ≡ grown)
-if_grown (Ok x) now-is grown stayed e = e
-if_grown (Err y) now-is grown stayed e = tt
+pub if_grown : {X Y : Type 0} (r : Result X Y) (now_is grown stayed : List ℕ) → now_is ≡ cond (is_ok r) grown stayed → IfOk r (λ _. now_is ≡ grown)
+if_grown (Ok x) now_is grown stayed e = e
+if_grown (Err y) now_is grown stayed e = tt
 
 pub at_ok : {X Y : Type 0} (r : Result X Y) (P : Type 0) → is_err r ≡ false → IfOk r (λ _. P) → P
 at_ok (Ok x) P e h = h

@@ -7,12 +7,12 @@ use Rattle.assembly.proofs.script.add_frame.Goals as goal
 pub returns-in-Ok : goal.returns-in-Ok
 returns-in-Ok c =
     let size = c.in-Ok.size in
-    let held = c.write-frame.new.buffer in
+    let held = c.write_frame.new.buffer in
     let had = vec_items c.args.script.now in
     let whole : size - 0 ≡ size = omega arith in
     let bytes = ap (λ n. take n held) whole ∙ put (frame_of c.args.call) _ held size c.in-Ok.ensures.answer c.in-Ok.ensures.after in
-    if_grown c.extend-from-slice.result (vec_items c.extend-from-slice.new.self) _ had
-    (c.extend-from-slice.ensures.items ∙ ap (λ s. cond (is_ok c.extend-from-slice.result) (had ++ s) had) bytes)
+    if_grown c.extend_from_slice.result (vec_items c.extend_from_slice.new.self) _ had
+    (c.extend_from_slice.ensures.items ∙ ap (λ s. cond (is_ok c.extend_from_slice.result) (had ++ s) had) bytes)
 
 pub returns-in-Err : goal.returns-in-Err
 returns-in-Err c =

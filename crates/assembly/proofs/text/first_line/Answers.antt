@@ -4,8 +4,8 @@ use Rattle.assembly.proofs.text.first_line.Goals as goal
 
 pub returns-in-len1-up : goal.returns-in-len1-up
 returns-in-len1-up c = record {
-  line = c.split-at.ensures.front ∙ ap (λ n. take n c.args.text.now) c.line-length.ensures.value;
+  line = c.split_at.ensures.front ∙ ap (λ n. take n c.args.text.now) c.line_length.ensures.value;
   rest =
-      take_rest c.split-at.result.1.now 1
-      ∙ ap (λ xs. drop 1 xs) (c.split-at.ensures.back ∙ ap (λ n. drop n c.args.text.now) c.line-length.ensures.value);
+      take_rest c.split_at.result.1.now 1
+      ∙ ap (λ xs. drop 1 xs) (c.split_at.ensures.back ∙ ap (λ n. drop n c.args.text.now) c.line_length.ensures.value);
 }

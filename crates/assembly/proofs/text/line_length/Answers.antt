@@ -4,11 +4,11 @@ use Rattle.parser.proofs.Fronts.{one_more, stops, ends}
 use Rattle.assembly.proofs.text.line_length.Goals as goal
 
 pub loop-n-preserved : goal.loop-n-preserved
-loop-n-preserved c = one_more in_line c.args.text.now c.loop-n.n c.loop-n.invariant c.loop-n-test.true (sym c.if-in-line.ensures)
+loop-n-preserved c = one_more in_line c.args.text.now c.loop-n.n c.loop-n.invariant c.loop-n-test.true (sym c.if-in_line.ensures)
 
-pub returns-else-in-line : goal.returns-else-in-line
-returns-else-in-line c = record {
-  value = stops in_line c.args.text.now c.loop-n.n c.loop-n.invariant c.loop-n-test.true (sym c.if-in-line.ensures);
+pub returns-else-in_line : goal.returns-else-in_line
+returns-else-in_line c = record {
+  value = stops in_line c.args.text.now c.loop-n.n c.loop-n.invariant c.loop-n-test.true (sym c.if-in_line.ensures);
   within = c.loop-n.invariant.0;
 }
 
