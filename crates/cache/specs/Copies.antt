@@ -1,5 +1,5 @@
 -- What a cache holds, and when it agrees with the store below. Assumes nothing.
-use Rattle.std.specs.Prelude.{◌≡◌, ℕ, ◌%◌, ◌<◌, Bool, true, false, List, [], length, get_or, Some, None, Option, ◌==◌, slice_index_or, slice_set}
+use Rattle.std.specs.Prelude.{◌≡◌, ℕ, ◌%◌, ◌<◌, Bool, true, false, List, [], length, Some, None, Option, ◌==◌, slice_index_or, slice_set}
 use Rattle.model.specs.Store.{Stored}
 use Rattle.cache.specs.declared.entries.Entry.{Entry}
 
@@ -12,10 +12,10 @@ is_row (Some q) r = q == r
 
 -- there is a copy of the row
 abbrev pub holds : List Entry → ℕ → Bool
-holds places r = is_row (get_or places (r % 4) no_entry).row r
+holds places r = is_row (slice_index_or places (r % 4) no_entry).row r
 
 abbrev pub copy_of : List Entry → ℕ → List ℕ
-copy_of places r = (get_or places (r % 4) no_entry).page
+copy_of places r = (slice_index_or places (r % 4) no_entry).page
 
 -- a copy of the row comes to its place
 abbrev pub kept : List Entry → ℕ → List ℕ → List Entry

@@ -1,5 +1,5 @@
 -- The journal store: a row's page stands in the journal, page 1, until it is at home. Assumes nothing.
-use Rattle.std.specs.Prelude.{◌≡◌, ℕ, ◌+◌, ◌-◌, ◌≤◌, Bool, true, false, cond, ◌&&◌, List, [], length, get_or, replicate, ◌==◌, nat_le, slice_index, slice_index_or, slice_set}
+use Rattle.std.specs.Prelude.{◌≡◌, ℕ, ◌+◌, ◌-◌, ◌≤◌, Bool, true, false, cond, ◌&&◌, List, [], length, replicate, ◌==◌, nat_le, slice_index, slice_index_or, slice_set}
 use Rattle.model.specs.Answers.{answer_number}
 use Rattle.model.specs.Limits.{page_bytes}
 use Rattle.model.specs.Store.{Stored, row_fits, restart_fits}
@@ -101,7 +101,7 @@ pub record Mends (m n : Medium) (a : Answer) : Type 0 where
 -- the card has its pages, page 0 has a mark of a row or none and nothing else, and none while the card is on
 pub record Sound (m : Medium) : Type 0 where
   pub sized : length m.pages ≡ page_count
-  pub first : get_or m.pages 0 [] ≡ mark_page (mark m.pages)
+  pub first : slice_index_or m.pages 0 [] ≡ mark_page (mark m.pages)
   pub known : mark m.pages ≤ row_count
   pub settled : m.on ≡ true → mark m.pages ≡ 0
 

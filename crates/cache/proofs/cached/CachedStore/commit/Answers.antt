@@ -24,6 +24,6 @@ returns-in-Done-Some g c =
           g.met.S.Store.turn_within (sym w.answer ∙ done) w.means h.1 in
           record { fits = (w.fits, subst (Agrees t) (sym is) agrees); answer = w.answer; means = w.means };
       home_stays = c.commit-answer.ensures.home_stays;
-      refusal-changes-nothing = λ h r. absurd (false≢true (sym (ap refusal done) ∙ r));
-      committed-is-at-hand = λ h d. ap (λ p. holds p row) is ∙ kept_holds places row bytes four;
+      refusal_changes_nothing = λ h r. absurd (false≢true (sym (ap refusal done) ∙ r));
+      committed_is_at_hand = λ h d. ap (λ p. holds p row) is ∙ kept_holds places row bytes four;
     }

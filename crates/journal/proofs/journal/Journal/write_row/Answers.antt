@@ -6,15 +6,15 @@ use Rattle.journal.specs.Layout.{lasting, begun_answer}
 use Rattle.journal.proofs.Committing.{not_lasting}
 use Rattle.journal.proofs.journal.Journal.write_row.Goals as goal
 
-pub returns-in-default : goal.returns-in-default
-returns-in-default c =
+pub returns-in_default : goal.returns-in_default
+returns-in_default c =
     let m = medium c.args.self.now.card in
     let bytes = c.args.page.now in
-    let f : lasting m c.args.row bytes ≡ false = not_lasting (begun_answer m c.args.row bytes) (λ e. c.in-default.not-Done (c.write-both.ensures.answer ∙ e)) in
+    let f : lasting m c.args.row bytes ≡ false = not_lasting (begun_answer m c.args.row bytes) (λ e. c.in_default.not-Done (c.write_both.ensures.answer ∙ e)) in
     record {
       journals = record {
-        card = c.write-both.ensures.card ∙ ap (written_both m 1 bytes 0) c.mark-page.ensures ∙ sym (cond-false _ _ _ f);
-        answer = c.write-both.ensures.answer ∙ sym (cond-false _ _ _ f);
+        card = c.write_both.ensures.card ∙ ap (written_both m 1 bytes 0) c.mark_page.ensures ∙ sym (cond-false _ _ _ f);
+        answer = c.write_both.ensures.answer ∙ sym (cond-false _ _ _ f);
       };
-      node_stays = c.write-both.ensures.node_stays;
+      node_stays = c.write_both.ensures.node_stays;
     }

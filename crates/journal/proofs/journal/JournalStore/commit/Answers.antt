@@ -9,15 +9,15 @@ use Rattle.journal.proofs.Committing.{Went, went}
 use Rattle.journal.proofs.Promising.{fits, owes_out, owes_off, commits_went, owes_went}
 use Rattle.journal.proofs.journal.JournalStore.commit.Goals as goal
 
-pub returns-in-default : goal.returns-in-default
-returns-in-default c =
+pub returns-in_default : goal.returns-in_default
+returns-in_default c =
     let m = medium c.args.self.now.card in
-    let out = and_right (ltb c.args.row (length (meaning m).rows)) _ c.in-default.ensures in
+    let out = and_right (ltb c.args.row (length (meaning m).rows)) _ c.in_default.ensures in
     record {
       commits = λ s. commits_out s 4 2 (commit_cut_at m c.args.row) (meaning m) c.args.row c.args.bytes.now out;
       owes = λ s. owes_out m c.args.row c.args.bytes.now out;
       home_stays = refl;
-      refusal-changes-nothing = λ s h. refl;
+      refusal_changes_nothing = λ s h. refl;
     }
 
 pub returns-then-row-ge-ROWS : goal.returns-then-row-ge-ROWS
@@ -28,37 +28,37 @@ returns-then-row-ge-ROWS c =
       commits = λ s. commits_out s 4 2 (commit_cut_at m c.args.row) (meaning m) c.args.row c.args.bytes.now out;
       owes = λ s. owes_out m c.args.row c.args.bytes.now out;
       home_stays = refl;
-      refusal-changes-nothing = λ s h. refl;
+      refusal_changes_nothing = λ s h. refl;
     }
 
-pub returns-then-not-is-on : goal.returns-then-not-is-on
-returns-then-not-is-on c =
+pub returns-then-not-is_on : goal.returns-then-not-is_on
+returns-then-not-is_on c =
     let m = medium c.args.self.now.card in
     let w = eqb-true (length c.args.bytes.now) 512 c.in-Some.ensures.1 in
-    let off = sym c.if-not-is-on.ensures in
+    let off = sym c.if-not-is_on.ensures in
     record {
       commits = λ s. commits_off s 4 2 (commit_cut_at m c.args.row) (meaning m) c.args.row c.args.bytes.now
           (fits m c.args.row c.args.bytes.now c.if-row-ge-ROWS.false w) off;
       owes = λ s. owes_off m c.args.row c.args.bytes.now off;
       home_stays = refl;
-      refusal-changes-nothing = λ s h. refl;
+      refusal_changes_nothing = λ s h. refl;
     }
 
 pub returns : goal.returns
 returns c =
     let m = medium c.args.self.now.card in
-    let n = medium c.write-row.new.self.card in
+    let n = medium c.write_row.new.self.card in
     let row = c.args.row in
     let bytes = c.args.bytes.now in
-    let a = c.write-row.result in
+    let a = c.write_row.result in
     let w = eqb-true (length bytes) 512 c.in-Some.ensures.1 in
     let l = c.if-row-ge-ROWS.false in
-    let on = sym c.if-not-is-on.ensures in
-    let did : Journals m n row bytes a = subst (λ b. Journals m n row b a) c.in-Some.ensures.0 c.write-row.ensures.journals in
+    let on = sym c.if-not-is_on.ensures in
+    let did : Journals m n row bytes a = subst (λ b. Journals m n row b a) c.in-Some.ensures.0 c.write_row.ensures.journals in
     let all : Sound m → Went m n row bytes a = λ s. went m row bytes s l on n a did in
     record {
       commits = λ s. commits_went m row bytes n a l w on (all s);
       owes = λ s. owes_went m row bytes n a l w on (all s);
-      home_stays = c.write-row.ensures.node_stays;
-      refusal-changes-nothing = λ s h. absurd (no_refusal (leb 4 m.left) (commit_cut_at m row) a (all s).answer h);
+      home_stays = c.write_row.ensures.node_stays;
+      refusal_changes_nothing = λ s h. absurd (no_refusal (leb 4 m.left) (commit_cut_at m row) a (all s).answer h);
     }

@@ -5,5 +5,5 @@ use Rattle.stores.specs.Cards.{medium}
 use Rattle.journal.specs.Layout.{owed_by}
 use Rattle.journal.proofs.journal.JournalStore.owed.Goals as goal
 
-pub returns-in-default : goal.returns-in-default
-returns-in-default c = sym (ap (λ p. owed_by (get_or p 0 0)) (get_or_past (medium c.args.self.now.card).pages 0 [] c.in-default.ensures))
+pub returns-in_default : goal.returns-in_default
+returns-in_default c = sym (ap (λ p. owed_by (get_or p 0 0)) (get_or_past (medium c.args.self.now.card).pages 0 [] c.in_default.ensures))

@@ -28,5 +28,5 @@ returns c =
       restarts = λ s. restarts_woke m left tear junk n a w (up s);
       owes = λ s. owes_woke m left tear junk n a w (up s);
       home_stays = c.mend.ensures.node_stays ∙ ap (λ (x : Medium). x.node) on;
-      refusal-changes-nothing = λ s h. absurd (no_refusal (leb (meaning m).power.owed left) (restart_cut_at m left) a (up s).answer h);
+      refusal_changes_nothing = λ s h. absurd (no_refusal (leb (meaning m).power.owed left) (restart_cut_at m left) a (up s).answer h);
     }

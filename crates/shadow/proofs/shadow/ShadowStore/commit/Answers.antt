@@ -16,19 +16,19 @@ returns-then-row-ge-ROWS c =
       commits = λ s. commits_out s 2 2 (commit_cut_at m c.args.row) (meaning m) c.args.row c.args.bytes.now
           (no_row (meaning m) row_count c.args.row c.args.bytes.now n c.if-row-ge-ROWS.true);
       home_stays = refl;
-      refusal-changes-nothing = λ s h. refl;
+      refusal_changes_nothing = λ s h. refl;
     }
 
-pub returns-then-not-is-on : goal.returns-then-not-is-on
-returns-then-not-is-on c =
+pub returns-then-not-is_on : goal.returns-then-not-is_on
+returns-then-not-is_on c =
     let m = medium c.args.self.now.card in
     let n = length-rows (row_in m.pages) row_count in
     let w = eqb-true (length c.args.bytes.now) 512 c.in-Some.ensures.1 in
     record {
       commits = λ s. commits_off s 2 2 (commit_cut_at m c.args.row) (meaning m) c.args.row c.args.bytes.now
-          (row_fits_lem (meaning m) row_count c.args.row c.args.bytes.now n c.if-row-ge-ROWS.false w) (sym c.if-not-is-on.ensures);
+          (row_fits_lem (meaning m) row_count c.args.row c.args.bytes.now n c.if-row-ge-ROWS.false w) (sym c.if-not-is_on.ensures);
       home_stays = refl;
-      refusal-changes-nothing = λ s h. refl;
+      refusal_changes_nothing = λ s h. refl;
     }
 
 pub returns : goal.returns
@@ -40,9 +40,9 @@ returns c =
     let a = c.switch.result in
     let w = eqb-true (length bytes) 512 c.in-Some.ensures.1 in
     let did : Sound m → Switches m n row bytes a = λ s. subst (λ b. Switches m n row b a) c.in-Some.ensures.0 (c.switch.ensures.switches (omega (arith, s.sized))) in
-    let all = λ (s : Sound m). commit_went m n row bytes a c.if-row-ge-ROWS.false w (sym c.if-not-is-on.ensures) s (did s) in
+    let all = λ (s : Sound m). commit_went m n row bytes a c.if-row-ge-ROWS.false w (sym c.if-not-is_on.ensures) s (did s) in
     record {
       commits = λ s. (all s).0;
       home_stays = c.switch.ensures.node_stays;
-      refusal-changes-nothing = λ s h. absurd (no_refusal (leb 2 m.left) (commit_cut_at m row) a (all s).1 h);
+      refusal_changes_nothing = λ s h. absurd (no_refusal (leb 2 m.left) (commit_cut_at m row) a (all s).1 h);
     }
