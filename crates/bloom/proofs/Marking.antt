@@ -1,5 +1,5 @@
 -- The four bits of a name stay set, and are set once it is in.
-use Rattle.std.proofs.Common.{◌≡◌, ℕ, Bool, true, false, ◌&&◌, ◌||◌, eqb, ◌⊎◌, sym, refl, ap, ◌∙◌, subst, inl, inr, arith}
+use Rattle.std.proofs.Common.{◌≡◌, ℕ, Bool, true, ◌||◌, eqb, sym, refl, ap, ◌∙◌, subst, inl, inr, arith}
 use Rattle.std.proofs.lemmas.Bool.{and_parts, and_from, or_cases, or_left, or_right, eq-eqb}
 use Rattle.model.specs.declared.answer.Answer.{Answer}
 use Rattle.model.specs.declared.answer.Answer.TheVariants.{Done, Full}
@@ -9,7 +9,7 @@ use Rattle.names.specs.Held.{Meaning, same_taken}
 use Rattle.names.specs.Changes.{Added}
 use Rattle.names.proofs.Listing.{taken, same_is}
 use Rattle.names.proofs.Adding.{added_holds}
-use Rattle.bloom.specs.Bits.{bit_of, all_set, with_bit, with_four}
+use Rattle.bloom.specs.Bits.{bit_of, all_set, with_four}
 use Rattle.bloom.specs.Layer.{LayerFit}
 
 -- bits that are set stay set

@@ -22,7 +22,7 @@ pub struct Bloom<N> {
 impl<N: NameSet + Drop> Bloom<N> {
     // The layer over a set, which is cleared.
     pub fn new(heap: Global, mut set: N) -> Result<Bloom<N>, AllocError>
-        ensures cleared { IfOk result (λ b. Cleared (layer_fit fit meaning b) (layer_meaning meaning b)) }
+        ensures cleared { IfOk result (λ b. Cleared (layer_fit N.fit N.meaning b) (layer_meaning N.meaning b)) }
         ensures bits { IfOk result (λ b. layer_bits b ≡ (λ _. false)) }
         ensures count { IfOk result (λ b. b.asked ≡ 0) }
     {
@@ -45,8 +45,8 @@ impl<N: NameSet + Drop> Bloom<N> {
     // Whether the name may have been taken, by its four bits alone. A no is never wrong.
     pub fn may_have(&self, stop: u16, name: Name) -> bool
         ensures bits { result ≡ all_set (layer_bits self.now) stop name }
-        ensures marked { layer_fit fit meaning self.now → (layer_meaning meaning self.now).holds stop name ≡ true → result ≡ true }
-        ensures never_wrong { layer_fit fit meaning self.now → result ≡ false → (layer_meaning meaning self.now).holds stop name ≡ false }
+        ensures marked { layer_fit N.fit N.meaning self.now → (layer_meaning N.meaning self.now).holds stop name ≡ true → result ≡ true }
+        ensures never_wrong { layer_fit N.fit N.meaning self.now → result ≡ false → (layer_meaning N.meaning self.now).holds stop name ≡ false }
     {
         self.filter.has_all(stop, name)
     }

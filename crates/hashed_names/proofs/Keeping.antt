@@ -1,17 +1,17 @@
 -- Names that go in, and names that are left out: the table stays sound.
-use Rattle.std.proofs.Common.{◌≡◌, ℕ, suc, ◌+◌, ◌<◌, ◌≤◌, Bool, true, false, cond, not, ◌&&◌, ◌||◌, ◌⊎◌, List, [], ◌∷◌, ◌++◌, length, get_or, take, set, replicate, Some, None, Option, sym, refl, ap, ◌∙◌, subst, inl, inr, arith}
+use Rattle.std.proofs.Common.{◌≡◌, ℕ, ◌+◌, ◌<◌, ◌≤◌, Bool, true, false, cond, not, ◌&&◌, ◌||◌, List, [], ◌∷◌, ◌++◌, length, take, set, replicate, Some, None, Option, sym, refl, ap, ◌∙◌, subst, inl, inr, arith}
 use mathlib.Core.Path.{fun_ext}
 use Rattle.std.proofs.lemmas.List.{take_more, take_all}
-use Rattle.std.proofs.lemmas.Bool.{both_ways, cases_Bool, and_from, and_left, and_right, and_parts, not_from_false, not_from_true}
+use Rattle.std.proofs.lemmas.Bool.{both_ways, cases_Bool, and_from, and_left, and_parts, not_from_false}
 use Rattle.model.specs.declared.answer.Answer.TheVariants.{Done}
 use Rattle.model.specs.declared.record.Name.{Name}
 use Rattle.names.specs.declared.taken.Taken.{Taken}
-use Rattle.names.specs.Held.{Meaning, Apart, same_taken, listed, most_taken}
-use Rattle.names.specs.Changes.{with_name, is_below, without_below, nothing, Added, Dropped, Cleared}
+use Rattle.names.specs.Held.{Apart, same_taken, listed, most_taken}
+use Rattle.names.specs.Changes.{with_name, is_below, without_below, Added, Dropped, Cleared}
 use Rattle.names.proofs.Listing.{taken, same_is, listed_append}
 use Rattle.names.proofs.Counting.{covers}
 use Rattle.names.proofs.Adding.{added_done}
-use Rattle.hashed_names.specs.Probing.{place_count, stored, at, Chained}
+use Rattle.hashed_names.specs.Probing.{place_count, stored, at}
 use Rattle.hashed_names.specs.Places.{FreeAt}
 use Rattle.hashed_names.specs.Inserting.{Inserted}
 use Rattle.hashed_names.specs.Table.{Sound, HashedFit}

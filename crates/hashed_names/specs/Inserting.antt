@@ -1,5 +1,5 @@
 -- What it means to put a name into places where it may already be. Assumes nothing.
-use Rattle.std.specs.Prelude.{◌≡◌, ℕ, ◌+◌, ◌<◌, Bool, cond, not, List, length, Option}
+use Rattle.std.specs.Prelude.{◌≡◌, ◌+◌, ◌<◌, Bool, cond, List, length, Option}
 use Rattle.names.specs.declared.taken.Taken.{Taken}
 use Rattle.names.specs.Held.{Apart, listed}
 use Rattle.names.specs.Changes.{with_name}

@@ -1,5 +1,5 @@
 -- What is left when a stop's names below a floor are left out. Assumes nothing.
-use Rattle.std.specs.Prelude.{◌≡◌, ℕ, ◌≤◌, List, length, Option}
+use Rattle.std.specs.Prelude.{◌≡◌, ℕ, List, Option}
 use Rattle.names.specs.declared.taken.Taken.{Taken}
 use Rattle.names.specs.Held.{listed}
 use Rattle.names.specs.Changes.{without_below}

@@ -1,9 +1,8 @@
 -- What the hash table means: the names that are stored in its places. Assumes nothing.
-use Rattle.std.specs.Prelude.{◌≡◌, ℕ, ◌+◌, ◌<◌, ◌≤◌, Bool, cond, List, length, Option}
+use Rattle.std.specs.Prelude.{◌≡◌, ℕ, ◌≤◌, List, length, Option}
 use Rattle.names.specs.declared.taken.Taken.{Taken}
 use Rattle.names.specs.Held.{Meaning, Apart, listed, most_taken}
-use Rattle.names.specs.Changes.{with_name}
-use Rattle.hashed_names.specs.Probing.{place_count, stored, Chained}
+use Rattle.hashed_names.specs.Probing.{stored, Chained}
 use Rattle.hashed_names.specs.Places.{slots_of}
 use Rattle.hashed_names.specs.declared.table.HashedNames.{HashedNames}
 

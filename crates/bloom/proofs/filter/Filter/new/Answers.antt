@@ -1,4 +1,4 @@
-use Rattle.std.proofs.Common.{◌≡◌, [], ◌∷◌, ◌++◌, replicate, vec_items, vec_len, sym, ap, ◌∙◌, arith}
+use Rattle.std.proofs.Common.{[], ◌∷◌, ◌++◌, replicate, vec_len, sym, ap, ◌∙◌, arith}
 use Rattle.std.proofs.lemmas.List.{replicate_more}
 use Rattle.bloom.specs.Bits.{bit_in}
 use Rattle.bloom.proofs.Words.{words_clear}
@@ -6,7 +6,7 @@ use Rattle.bloom.proofs.filter.Filter.new.Goals as goal
 
 pub loop-words-preserved : goal.loop-words-preserved
 loop-words-preserved c =
-    let push = c.push-reserved.ensures in (
+    let push = c.push_reserved.ensures in (
       push.items
           ∙ ap (λ ws. ws ++ 0 ∷ []) c.loop-words.invariant.0
           ∙ replicate_more (vec_len c.loop-words.words) 0

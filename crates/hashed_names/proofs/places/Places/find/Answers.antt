@@ -1,17 +1,17 @@
-use Rattle.std.proofs.Common.{◌≡◌, length, sym, ◌∙◌, arith}
+use Rattle.std.proofs.Common.{◌≡◌, length, sym, ◌∙◌}
 use Rattle.hashed_names.specs.Places.{slots_of}
 use Rattle.hashed_names.proofs.Chains.{free_here, stored_here, all_passed}
 use Rattle.hashed_names.proofs.places.Places.find.Goals as goal
 
-pub returns-in-default : goal.returns-in-default
-returns-in-default c =
+pub returns-in_default : goal.returns-in_default
+returns-in_default c =
     let size : length (slots_of c.args.self.now) ≡ 2048 = sym c.args.self.now.slots.ok.0 ∙ c.args.self.now.long in
-    free_here _ _ _ _ _ size c.home-of-home.ensures _ c.index.ensures c.loop-step.invariant c.in-default.is
+    free_here _ _ _ _ _ size c.home_of-home.ensures _ c.index.ensures c.loop-step.invariant c.in_default.is
 
 pub returns-then-is : goal.returns-then-is
 returns-then-is c =
     let size : length (slots_of c.args.self.now) ≡ 2048 = sym c.args.self.now.slots.ok.0 ∙ c.args.self.now.long in
-    stored_here _ _ _ _ _ size c.home-of-home.ensures _ c.index.ensures _ c.in-Some.is (sym c.if-is.ensures)
+    stored_here _ _ _ _ _ size c.home_of-home.ensures _ c.index.ensures _ c.in-Some.is (sym c.if-is.ensures)
 
 pub returns : goal.returns
 returns c =

@@ -7,5 +7,5 @@ use Rattle.hashed_names.proofs.places.Places.has_below.Goals as goal
 
 pub returns : goal.returns
 returns c = λ _.
-    subst (λ xs. listed (stored xs) ≡ without_below (listed (stored xs)) c.args.stop c.args.floor) c.as-slice-slot-items.ensures.value
+    subst (λ xs. listed (stored xs) ≡ without_below (listed (stored xs)) c.args.stop c.args.floor) c.as_slice-slot-items.ensures.value
     (all_stay _ _ _ (λ j l. c.loop-slot.invariant j (omega (arith, c.loop-slot-test.false, l))))

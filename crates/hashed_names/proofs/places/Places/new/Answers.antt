@@ -4,7 +4,7 @@ use Rattle.hashed_names.proofs.places.Places.new.Goals as goal
 
 pub loop-slots-preserved : goal.loop-slots-preserved
 loop-slots-preserved c =
-    let push = c.push-reserved.ensures in (
+    let push = c.push_reserved.ensures in (
       push.items
           ∙ ap (λ xs. xs ++ None ∷ []) c.loop-slots.invariant.0
           ∙ replicate_more (vec_len c.loop-slots.slots) None

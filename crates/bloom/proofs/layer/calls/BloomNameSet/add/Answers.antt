@@ -8,10 +8,10 @@ returns-in-Done g c = record {
   adds = λ fit.
       let added = c.add-answer.ensures fit.below in
       record {
-        fit = added_fit _ _ fit added c.in-Done.is c.set-all.ensures;
+        fit = added_fit _ _ fit added c.in-Done.is c.set_all.ensures;
         answer = added.answer;
         means = added.means;
       };
   count = refl;
-  bits = c.set-all.ensures ∙ ap (λ r. bits_after (layer_bits c.args.self.now) r c.args.stop c.args.name) (sym c.in-Done.is);
+  bits = c.set_all.ensures ∙ ap (λ r. bits_after (layer_bits c.args.self.now) r c.args.stop c.args.name) (sym c.in-Done.is);
 }
