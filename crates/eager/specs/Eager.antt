@@ -1,7 +1,7 @@
 -- A computation made to be as unpleasant as the laws allow: it emits the largest amount at every take and every fire, its
 -- mark goes as far as it may, its due stays as early as it may and so is due again after every fire, and its verdicts
 -- follow no reason. Assumes nothing.
-use Rattle.std.specs.Prelude.{ℕ, ◌+◌, ◌%◌, ◌≤◌, min, max, Bool, cond, List, [], ◌∷◌, ◌++◌, replicate, Some, None, Option, ◌==◌, slice_index}
+use Rattle.std.specs.Prelude.{ℕ, ◌%◌, ◌≤◌, min, max, cond, List, ◌∷◌, ◌++◌, replicate, Some, None, Option, ◌==◌, slice_index}
 use Rattle.model.specs.Computation.{Computation}
 use Rattle.model.specs.Limits.{last_time, most_amount}
 use Rattle.model.specs.declared.answer.Verdict.{Verdict}

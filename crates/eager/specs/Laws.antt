@@ -1,11 +1,11 @@
 -- The laws of a computation, for the eager one.
-use Rattle.std.specs.Prelude.{◌≡◌, ℕ, ◌+◌, ◌<◌, ◌≤◌, min, max, Bool, true, false, cond, List, [], ◌∷◌, ◌++◌, length, replicate, Some, None, Option, ◌==◌, slice_index, refl}
+use Rattle.std.specs.Prelude.{◌≡◌, ℕ, ◌≤◌, min, Bool, true, false, cond, List, [], ◌∷◌, ◌++◌, length, replicate, Some, None, Option, ◌==◌, slice_index, refl}
 use Rattle.std.proofs.Common.{sym, ap, subst, ◌∙◌, arith}
-use Rattle.model.specs.Computation.{Lawful, Takes, Fires, Emits, Upto, StateBytes}
+use Rattle.model.specs.Computation.{Lawful, Emits, Upto, StateBytes}
 use Rattle.model.specs.Limits.{last_time, most_amount}
 use Rattle.model.specs.Bytes.{u32_at, u32_bytes}
 use Rattle.computations.proofs.Places.{u32_back, u32_small, IsByte, each_place, joined, zeros}
-use Rattle.eager.specs.Eager.{eager, EagerSound, InTime, eager_store, eager_load, eager_fire, due_or, due_bytes, pushed}
+use Rattle.eager.specs.Eager.{eager, EagerSound, InTime, eager_store, eager_load, due_or, due_bytes, pushed}
 use Rattle.eager.specs.declared.state.EagerState.{EagerState}
 
 -- the mark after a fire
