@@ -1,8 +1,8 @@
 -- The detector predicts the next amount and tells of a spike: an amount of at least ten that is at least twice what was
 -- predicted. Assumes nothing.
-use Rattle.std.specs.Prelude.{ℕ, ◌+◌, ◌*◌, ◌≤◌, min, Bool, cond, ◌&&◌, List, ◌++◌, replicate, ℤ, pos, ◌+ℤ◌, ◌-ℤ◌, Some, None, Option, int_div, nat_le, nat_lt, unsigned_abs}
+use Rattle.std.specs.Prelude.{ℕ, ◌+◌, ◌*◌, ◌≤◌, min, Bool, cond, ◌&&◌, List, ◌++◌, replicate, pos, ◌+ℤ◌, ◌-ℤ◌, Some, None, Option, int_div, nat_le, nat_lt, unsigned_abs}
 use Rattle.model.specs.Computation.{Computation}
-use Rattle.model.specs.Limits.{last_time, most_amount}
+use Rattle.model.specs.Limits.{last_time}
 use Rattle.model.specs.declared.answer.Verdict.{Verdict}
 use Rattle.model.specs.declared.answer.Verdict.TheVariants.{TooMuch, Fine}
 use Rattle.model.specs.Bytes.{u32_at, u32_bytes}
