@@ -1,6 +1,6 @@
 use Rattle.std.proofs.Common.{refl}
 use Rattle.counter.specs.Counter.{earliest_from}
-use Rattle.cases.specs.Worked.{Counted, Detected, Shadowed, Journalled}
+use Rattle.cases.specs.Worked.{Counted, Detected}
 use Rattle.cases.proofs.worked_cases.Goals as goal
 
 counts : Counted
