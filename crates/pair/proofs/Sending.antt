@@ -58,12 +58,12 @@ module _ (p : Pair) (on : p.collector.power.on ≡ true) (q : Queued p.collector
   pub send_full : (s : ℕ) → head_of p.collector.queue ≡ Some s → leb most_messages (length p.link) ≡ true → send p ≡ (Plain LinkFull, p)
   send_full s h full = cond-true _ _ _ on ∙ (by_head s p.collector.queue refl h).0 ∙ cond-true _ _ _ full
 
-  pub send_head
+  pub send_head_lem
       : (s : ℕ) (o : Option Production)
       → head_of p.collector.queue ≡ Some s → leb most_messages (length p.link) ≡ false
       → oldest (p.collector.row s).pending ≡ o
       → send p ≡ send_from s o p
-  send_head s o h room e =
+  send_head_lem s o h room e =
       let b = by_head s p.collector.queue refl h in
       cond-true _ _ _ on ∙ b.0 ∙ cond-false _ _ _ room ∙ b.1 ∙ ap (λ (x : Option Production). send_from s x p) e
 

@@ -4,7 +4,7 @@ use Rattle.pair.proofs.pair.Pair.new.Goals as goal
 
 pub returns : goal.returns
 returns g c =
-    let home : AtHome g.S.Store g.T.Store c.args.collector-store c.args.spotter-store = search rules in
+    let home : AtHome g.S.Store g.T.Store c.args.collector_store c.args.spotter_store = search rules in
     record {
       home = home;
       blank = λ fit fit' b b'.

@@ -7,7 +7,7 @@ use Rattle.pair.proofs.Running.{no_call, kit_keeps, ran_more, ran_carries, never
 use Rattle.pair.proofs.pair.Pair.run.Goals as goal
 
 pub loop-call-init : goal.loop-call-init
-loop-call-init g c = let made = c.in-Ok.ensures.made in (made.1.0, made.1.1, (made.0, refl))
+loop-call-init g c = let made = c.in-Ok.ensures in (made.len, made.capacity, (made.items, refl))
 
 pub push_reserved-requires : goal.push_reserved-requires
 push_reserved-requires g c = omega arith
@@ -17,8 +17,8 @@ returns-in-Err g c =
     let i = c.loop-call.call-index in
     let calls = c.args.calls.now in
     record {
-      one-after-another = tt;
-      keeps-the-law = tt;
+      one_after_another = tt;
+      keeps_the_law = tt;
       stops = never_damaged g.S.Store g.N.NameSet g.C.Computation g.T.Store g.O.NameSet g.D.Computation c.args.self.now c.loop-call.self c.call.new.self (take i calls) (vec_items c.loop-call.outcomes) (get_or calls i no_call) c.in-Err.field-0 c.loop-call.invariant.2 c.in-Err.ensures;
     }
 
@@ -44,7 +44,7 @@ returns g c =
     let ck = kit_keeps g.S.Store g.N.NameSet g.C.Computation g.met.S.Store.turn_counts g.met.S.Store.turn_within g.met.C.Computation.lawful in
     let sk = kit_keeps g.T.Store g.O.NameSet g.D.Computation g.met.T.Store.turn_counts g.met.T.Store.turn_within g.met.D.Computation.lawful in
     record {
-      one-after-another = ran;
-      keeps-the-law = λ es p run shows. ran_carries g.S.Store g.N.NameSet g.C.Computation g.T.Store g.O.NameSet g.D.Computation ck sk es c.args.self.now c.loop-call.self calls (vec_items c.loop-call.outcomes) ran p run shows;
+      one_after_another = ran;
+      keeps_the_law = λ es p run shows. ran_carries g.S.Store g.N.NameSet g.C.Computation g.T.Store g.O.NameSet g.D.Computation ck sk es c.args.self.now c.loop-call.self calls (vec_items c.loop-call.outcomes) ran p run shows;
       stops = tt;
     }

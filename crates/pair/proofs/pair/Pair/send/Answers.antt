@@ -4,7 +4,7 @@ use Rattle.model.specs.declared.record.Message.{Message}
 use Rattle.model.specs.declared.record.Message.TheVariants.{Produced}
 use Rattle.node.proofs.Showing.{is_on}
 use Rattle.pair.proofs.Linking.{added}
-use Rattle.pair.proofs.Sending.{send_none, send_full, send_head, head_below}
+use Rattle.pair.proofs.Sending.{send_none, send_full, send_head_lem, head_below}
 use Rattle.pair.proofs.Telling.{told_as, told_same}
 use Rattle.pair.proofs.pair.Pair.send.Goals as goal
 
@@ -31,7 +31,7 @@ returns-in_default-oldest g c = λ p shows.
     let head = sym (c.in-Some.ensures p.collector shows.collector on) in
     let room = ap (λ (ms : List Message). leb most_messages (length ms)) (sym shows.link) ∙ sym c.is_full.ensures ∙ c.if-is_full.false in
     let below = head_below p on queued c.in-Some.stop head in
-    told_as (send_head p on queued c.in-Some.stop _ head room (sym (c.in_default-oldest.ensures p.collector shows.collector on below))) (told_same g.S.Store g.N.NameSet g.C.Computation g.T.Store g.O.NameSet g.D.Computation shows)
+    told_as (send_head_lem p on queued c.in-Some.stop _ head room (sym (c.in_default-oldest.ensures p.collector shows.collector on below))) (told_same g.S.Store g.N.NameSet g.C.Computation g.T.Store g.O.NameSet g.D.Computation shows)
 
 pub returns : goal.returns
 returns g c = λ p shows.
@@ -42,7 +42,7 @@ returns g c = λ p shows.
     let room = sym c.is_full.ensures ∙ c.if-is_full.false in
     let below = head_below p on queued c.in-Some.stop head in
     let joins = added v.link c.add.new.self _ room c.add.ensures.room c.add.ensures.messages in
-    told_as (send_head p on queued c.in-Some.stop _ head (ap (λ (ms : List Message). leb most_messages (length ms)) (sym shows.link) ∙ room) (sym (c.in-Some-oldest.ensures p.collector shows.collector on below)))
+    told_as (send_head_lem p on queued c.in-Some.stop _ head (ap (λ (ms : List Message). leb most_messages (length ms)) (sym shows.link) ∙ room) (sym (c.in-Some-oldest.ensures p.collector shows.collector on below)))
     (record {
       outcome = refl;
       shows = record { collector = c.turn.ensures p.collector shows.collector; spotter = shows.spotter; link = joins ∙ ap (λ (ms : List Message). ms ++ (Produced c.in-Some.stop c.in-Some-oldest.production ∷ [])) shows.link };
