@@ -18,7 +18,7 @@ loop-next-preserved c =
     let same = c.loop-next.invariant.0 in
     let had = c.in-Some.ensures in
     let inside : place < length script = omega (arith, had.forward.0, had.forward.1, ap length same) in
-    let pushed = c.in_ok-push.ensures.items in (
+    let pushed = c.in_ok-push-in-Ok.ensures.items in (
       had.script ∙ same,
       subst (λ (cs : List Call). SoFar script (place_of c.next_call.new.self) cs) (sym pushed)
           (one_call script place (vec_items c.loop-next.calls) c.loop-next.invariant.1 (place_of c.next_call.new.self) c.in-Ok.event.call inside

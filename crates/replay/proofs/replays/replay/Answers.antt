@@ -29,8 +29,8 @@ returns-in-Ok-account_text g c =
     let number : c.len-events.result - 2 - 0 ≡ length outcomes - 2 = omega (arith, c.len-events.ensures, c.in-Ok-run.outcomes.ok.0) in
     record {
       account =
-          replayed g.S.Store g.N.NameSet g.C.Computation g.T.Store g.O.NameSet g.D.Computation c.args.script.now c.deref.result.now outcomes calls_are c.args.pair.now c.run.new.self ran.one-after-another
+          replayed g.S.Store g.N.NameSet g.C.Computation g.T.Store g.O.NameSet g.D.Computation c.args.script.now c.deref.result.now outcomes calls_are c.args.pair.now c.run.new.self ran.one_after_another
           _ _ c.stop_lines.new.pair (take (c.len-events.result - 2 - 0) c.deref-2.result.now) (placed c.in-Ok.script.fault) c.as_str.result.now (string_bytes c.in-Ok-account_text.text)
-          ran.keeps-the-law stops.shows (λ p shows. c.as_str.ensures.value ∙ stops.text p shows) (ap (λ (os : List Outcome). take (c.len-events.result - 2 - 0) os) c.deref-2.ensures.value ∙ ap (λ (n : ℕ). take n outcomes) number) c.in-Ok.ensures.fault c.in-Ok-account_text.ensures;
+          ran.keeps_the_law stops.shows (λ p shows. c.as_str.ensures.value ∙ stops.text p shows) (ap (λ (os : List Outcome). take (c.len-events.result - 2 - 0) os) c.deref-2.ensures.value ∙ ap (λ (n : ℕ). take n outcomes) number) c.in-Ok.ensures.fault c.in-Ok-account_text.ensures;
       undamaged = tt;
     }
