@@ -1,5 +1,5 @@
 -- The account of a script on two new boxes. Assumes nothing.
-use Rattle.std.proofs.Common.{◌≡◌, ℕ, List, [], ◌++◌, IfOk, IfErr, Ok, Err, Result, sym, refl, ap, ◌∙◌, arith}
+use Rattle.std.proofs.Common.{◌≡◌, IfOk, IfErr, Ok, Err, Result, refl, ap}
 use Rattle.stores.specs.Cards.{medium}
 use Rattle.journal.specs.Layout.{meaning}
 use Rattle.journal.specs.declared.journal.Journal.{Journal}

@@ -1,16 +1,15 @@
 -- A commit of a row leaves a store that keeps the node after it. Assumes nothing.
-use Rattle.std.proofs.Common.{◌≡◌, ℕ, ◌<◌, ◌≤◌, Bool, true, false, cond, ◌&&◌, eqb, ltb, List, [], length, get_or, set, sym, refl, ap, ◌∙◌, subst, inl, inr, arith, length-set}
+use Rattle.std.proofs.Common.{◌≡◌, ℕ, ◌<◌, ◌≤◌, Bool, true, false, cond, ◌&&◌, List, [], length, get_or, set, sym, refl, ap, ◌∙◌, subst, inl, inr, arith, length-set}
 use Rattle.std.proofs.lemmas.List.{get_or-set_same, get_or-set_other}
-use Rattle.std.proofs.lemmas.Bool.{cases_eq, cond-true, cond-false, eq-eqb, ne_eqb, lt-ltb, and_from}
+use Rattle.std.proofs.lemmas.Bool.{cases_eq, cond-true, eq-eqb, ne_eqb, lt-ltb, and_from}
 use Rattle.model.specs.Limits.{stops, page_bytes, last_time}
 use Rattle.model.specs.Power.{Power, commit_answer, renewed, spent}
 use Rattle.model.specs.Row.{Row}
 use Rattle.model.specs.Store.{Stored, row_fits, store_answer, committed}
 use Rattle.model.specs.declared.answer.Answer.{Answer}
 use Rattle.law.specs.Node.{Kit, Node, Free, commit_row, commit_watermark, with_row}
-use Rattle.rows.specs.Layout.{encoded, encoded_watermark, RowFits}
+use Rattle.rows.specs.Layout.{encoded_watermark}
 use Rattle.ledger.specs.Kept.{Stands, Kept}
-use Rattle.ledger.specs.Promises.{RowCommitted}
 
 -- a row more, or not, in the store and in the node alike
 pub with_row_lem

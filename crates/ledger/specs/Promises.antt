@@ -1,5 +1,5 @@
 -- What reading and writing a node's rows promises, of what the store means before (s) and after (t). Assumes nothing.
-use Rattle.std.specs.Prelude.{◌≡◌, ℕ, ◌<◌, ◌≤◌, Bool, true, Some, Option}
+use Rattle.std.specs.Prelude.{◌≡◌, ℕ, ◌<◌, ◌≤◌, true, Some, Option}
 use Rattle.std.specs.Option.{option_map}
 use Rattle.model.specs.Limits.{stops, last_time}
 use Rattle.model.specs.Row.{Row}

@@ -1,10 +1,9 @@
 -- What is kept beside the rows follows them through a commit. Assumes nothing.
-use Rattle.std.proofs.Common.{◌≡◌, ℕ, ◌+◌, ◌<◌, ◌≤◌, Bool, true, false, cond, ◌&&◌, ◌||◌, eqb, ltb, leb, List, [], ◌∷◌, length, Some, None, Option, sym, refl, ap, ◌∙◌, subst, arith}
-use mathlib.Core.Bool.{false≢true}
-use Rattle.std.proofs.lemmas.Bool.{cond-true, cond-false, cond_both, cases_Bool, leb-true, le-leb, lt-ltb, or_left, both_ways}
+use Rattle.std.proofs.Common.{◌≡◌, ℕ, ◌+◌, ◌<◌, ◌≤◌, Bool, true, false, cond, ◌&&◌, eqb, ltb, leb, List, length, Option, sym, refl, ap, ◌∙◌, subst, arith}
+use Rattle.std.proofs.lemmas.Bool.{cond-true, cond-false, cond_both, leb-true, le-leb, lt-ltb, or_left}
 use Rattle.model.specs.Computation.{Computation}
 use Rattle.model.specs.Limits.{stops, most_names}
-use Rattle.model.specs.Power.{Power, commit_answer, renewed, spent}
+use Rattle.model.specs.Power.{Power, commit_answer, renewed}
 use Rattle.model.specs.Row.{Row}
 use Rattle.model.specs.declared.answer.Answer.{Answer}
 use Rattle.model.specs.declared.answer.Answer.TheVariants.{Done}
@@ -19,9 +18,8 @@ use Rattle.law.specs.Node.{Node, Kit, Free, with_row, requeued, commit_row, comm
 use Rattle.model.specs.Row.{oldest}
 use Rattle.law.proofs.Next.{row_at}
 use Rattle.law.proofs.Queues.{Right, requeued_right, queued_right, right_queued}
-use Rattle.ledger.specs.Kept.{Kept}
 use Rattle.upkeep.specs.Lines.{Line}
-use Rattle.upkeep.specs.Names.{Holds, with_names, renamed, Fresh, Few, coming}
+use Rattle.upkeep.specs.Names.{Holds, with_names, Few}
 use Rattle.upkeep.proofs.Renaming.{same_holds}
 use Rattle.node.specs.Shows.{Beside, Follows}
 

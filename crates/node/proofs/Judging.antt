@@ -1,18 +1,16 @@
 -- What the calls of the law come to. Assumes nothing.
-use Rattle.std.proofs.Common.{◌≡◌, ℕ, zero, suc, ◌+◌, ◌<◌, ◌≤◌, max, Bool, true, false, cond, ◌&&◌, eqb, ltb, leb, List, [], ◌∷◌, ◌++◌, length, Some, None, Option, sym, refl, ap, ◌∙◌, subst, inl, inr, append-nil, add-one, arith}
-use mathlib.Core.Bool.{false≢true}
-use Rattle.std.proofs.lemmas.Bool.{cases_Bool, cond-true, cond-false, and_parts, ltb-true, leb-true}
+use Rattle.std.proofs.Common.{◌≡◌, ℕ, ◌+◌, ◌<◌, Bool, true, false, cond, ◌&&◌, ltb, leb, List, [], ◌∷◌, ◌++◌, length, Some, None, Option, sym, refl, ap, ◌∙◌, inl, inr, append-nil, add-one, arith}
+use Rattle.std.proofs.lemmas.Bool.{cases_Bool, cond-true, cond-false, and_parts, ltb-true}
 use Rattle.model.specs.Computation.{Computation}
 use Rattle.model.specs.Limits.{stops, last_time, most_amount, in_range}
 use Rattle.model.specs.Row.{Row}
 use Rattle.model.specs.declared.answer.Answer.{Answer}
 use Rattle.model.specs.declared.answer.Answer.TheVariants.{Done, OutOfRange, Off, Late, Seen, Early, Over, Full, NoRoom, Cut, Nothing, LinkFull, NoMessage, NotOldest}
-use Rattle.model.specs.declared.record.Name.{Name}
 use Rattle.model.specs.declared.record.Record.{Record}
-use Rattle.law.specs.Node.{Node as LawNode, Kit, Free, hand_in, fire_as, fire_due}
+use Rattle.law.specs.Node.{Node as LawNode, Kit, Free, hand_in, fire_due}
 use Rattle.model.specs.Answers.{is_done}
 use Rattle.model.specs.Names.{kept}
-use Rattle.law.specs.Rows.{seen, floor_of, take_of, taken_row, fired_row, admitted, considered, room_to_take}
+use Rattle.law.specs.Rows.{seen, floor_of, take_of, admitted, considered, room_to_take}
 use Rattle.law.specs.Stops.{low_below, least_due, least_time}
 use Rattle.law.proofs.Judged.{considered_lets, seen_mem}
 use Rattle.steps.specs.Steps.{Took, Fired}

@@ -1,12 +1,10 @@
 -- What is kept beside the rows follows one stop more. Assumes nothing.
-use Rattle.std.proofs.Common.{◌≡◌, ℕ, suc, ◌+◌, ◌*◌, ◌<◌, ◌≤◌, Bool, true, false, cond, not, ◌&&◌, ◌||◌, eqb, ltb, ◌⊎◌, List, [], ◌∷◌, ◌++◌, length, Option, sym, refl, ap, ◌∙◌, subst, inl, inr, append-nil, zero-le, add-one, arith}
-use mathlib.Core.Bool.{false≢true}
-use Rattle.std.proofs.lemmas.Bool.{cases_Bool, cases_eq, cond-true, cond-false, ltb-true, ltb-false, lt-ltb, le-ltb, eqb-true, eqb-false, eq-eqb, ne_eqb, not_from_false, both_ways}
+use Rattle.std.proofs.Common.{◌≡◌, ℕ, ◌+◌, ◌*◌, ◌<◌, ◌≤◌, Bool, true, false, not, ◌&&◌, ◌||◌, eqb, ltb, List, [], ◌∷◌, ◌++◌, length, Option, sym, refl, ap, ◌∙◌, subst, inl, inr, append-nil, zero-le, add-one, arith}
+use Rattle.std.proofs.lemmas.Bool.{cases_Bool, cases_eq, cond-true, cond-false, ltb-true, ltb-false, lt-ltb, le-ltb, eq-eqb, ne_eqb, not_from_false}
 use Rattle.model.specs.Computation.{Computation}
 use Rattle.model.specs.Limits.{stops, most_names}
 use Rattle.model.specs.Row.{Row}
 use Rattle.model.specs.declared.answer.Answer.{Answer}
-use Rattle.model.specs.declared.answer.Answer.TheVariants.{Done}
 use Rattle.model.specs.declared.record.Name.{Name}
 use Rattle.model.specs.declared.record.Production.{Production}
 use Rattle.agenda.specs.Slots.{changed, updated}
@@ -14,14 +12,13 @@ use Rattle.names.specs.Held.{Meaning}
 use Rattle.names.specs.Fill.{AddedAll, with_names}
 use Rattle.names.specs.Changes.{nothing}
 use Rattle.model.specs.Names.{named}
-use Rattle.rows.specs.Layout.{RowFits}
 use Rattle.law.specs.Lists.{Mem}
 use Rattle.law.specs.Node.{Node as LawNode, stands, requeued}
 use Rattle.law.specs.Rows.{seen}
 use Rattle.model.specs.Row.{oldest}
 use Rattle.law.specs.Stops.{listed, pending_below, pending_stops}
 use Rattle.law.proofs.Lists.{kept_all}
-use Rattle.law.proofs.Queues.{Right, right_queued, pending_right, Listed, pending_listed, stands_mem}
+use Rattle.law.proofs.Queues.{Right, right_queued, pending_right, pending_listed, stands_mem}
 use Rattle.upkeep.specs.Lines.{Line}
 use Rattle.node.specs.Shows.{Beside, Follows}
 use Rattle.node.specs.Remaking.{FollowsBelow}

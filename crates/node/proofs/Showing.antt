@@ -1,5 +1,5 @@
 -- What a node shows after a commit. Assumes nothing.
-use Rattle.std.proofs.Common.{◌≡◌, ℕ, ◌<◌, ◌≤◌, Bool, true, false, cond, leb, List, [], ◌∷◌, Some, None, Option, sym, refl, ap, ◌∙◌, subst, arith}
+use Rattle.std.proofs.Common.{◌≡◌, ℕ, ◌<◌, ◌≤◌, true, List, [], ◌∷◌, Some, None, Option, sym, refl, ap, ◌∙◌, subst, arith}
 use Rattle.model.specs.Computation.{Computation}
 use Rattle.model.specs.Limits.{stops, last_time}
 use Rattle.model.specs.OnBytes.{on_bytes}
@@ -22,12 +22,11 @@ use Rattle.rows.specs.declared.stop_row.StopRow.{StopRow}
 use Rattle.model.specs.Row.{oldest as oldest_in}
 use Rattle.law.specs.Node.{Node as LawNode, Kit, Free, requeued, commit_row, commit_watermark}
 use Rattle.model.specs.Row.{oldest}
-use Rattle.ledger.specs.Kept.{Kept}
 use Rattle.ledger.specs.Promises.{RowCommitted, WatermarkCommitted}
 use Rattle.queue.specs.Lines.{lined}
 use Rattle.upkeep.specs.Lines.{Line}
 use Rattle.upkeep.specs.Names.{Holds, with_names, renamed, Fresh, Few, Renamed}
-use Rattle.node.specs.Shows.{Beside, Follows, kit_of, beside_of, Shows}
+use Rattle.node.specs.Shows.{kit_of, beside_of, Shows}
 use Rattle.node.specs.Promises.{Told, Stays}
 use Rattle.node.specs.declared.node.Node.{Node}
 use Rattle.node.proofs.Following.{done_lasts, cut_ends, line, few_with, Moved, follows_row, new_stands, follows_watermark}

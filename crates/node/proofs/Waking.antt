@@ -1,16 +1,16 @@
 -- What a restart makes of a node. Assumes nothing.
-use Rattle.std.proofs.Common.{◌≡◌, ℕ, ◌≤◌, Bool, true, false, cond, ◌&&◌, eqb, leb, ◌⊎◌, List, Ok, Result, sym, refl, ap, ◌∙◌, subst, inl, inr, arith}
-use Rattle.std.proofs.lemmas.Bool.{cases_Bool, cond-true, cond-false, both_ways}
-use Rattle.model.specs.Power.{Power, restart_answer, restarted}
-use Rattle.model.specs.Store.{Stored, restart_fits, wake_answer, awake}
+use Rattle.std.proofs.Common.{◌≡◌, ℕ, true, false, leb, ◌⊎◌, List, Ok, Result, sym, ap, ◌∙◌, subst, inl, inr, arith}
+use Rattle.std.proofs.lemmas.Bool.{cases_Bool, cond-true, cond-false}
+use Rattle.model.specs.Power.{restart_answer, restarted}
+use Rattle.model.specs.Store.{Stored, restart_fits}
 use Rattle.model.specs.declared.answer.Answer.{Answer}
-use Rattle.model.specs.declared.answer.Answer.TheVariants.{Done, OutOfRange, Cut}
+use Rattle.model.specs.declared.answer.Answer.TheVariants.{Done, OutOfRange}
 use Rattle.model.specs.declared.answer.CutPoint.{CutPoint}
 use Rattle.stores.specs.Promises.{Restarts}
 use Rattle.stores.specs.declared.store.Store.{Ghosts as Stores}
 use Rattle.names.specs.declared.set.NameSet.{Ghosts as Sets}
 use Rattle.computations.specs.declared.computation.Computation.{Ghosts as Computations}
-use Rattle.law.specs.Node.{Node as LawNode, Free, restart}
+use Rattle.law.specs.Node.{Node as LawNode, restart}
 use Rattle.law.specs.Stops.{pending_stops}
 use Rattle.ledger.specs.Kept.{Kept}
 use Rattle.node.specs.Promises.{Told}

@@ -1,5 +1,5 @@
 -- What the calls of a node promise. Assumes nothing.
-use Rattle.std.specs.Prelude.{◌≡◌, ℕ, ◌<◌, Bool, true, cond, List, Some, None, Ok, Option, Result, nat_le}
+use Rattle.std.specs.Prelude.{◌≡◌, ℕ, ◌<◌, Bool, true, cond, Some, None, Ok, Option, Result, nat_le}
 use Rattle.std.specs.Option.{option_map}
 use Rattle.model.specs.Limits.{stops}
 use Rattle.model.specs.Row.{Row}
@@ -9,7 +9,6 @@ use Rattle.model.specs.declared.record.Name.{Name}
 use Rattle.stores.specs.declared.store.Store.{Ghosts as Stores}
 use Rattle.names.specs.declared.set.NameSet.{Ghosts as Sets}
 use Rattle.computations.specs.declared.computation.Computation.{Ghosts as Computations}
-use Rattle.rows.specs.Layout.{RowFits}
 use Rattle.rows.specs.Meaning.{row_of}
 use Rattle.rows.specs.declared.stop_row.StopRow.{StopRow}
 use Rattle.law.specs.Node.{Node as LawNode, Kit, Free, commit_row}

@@ -1,17 +1,16 @@
 -- What the calls on the link come to. Assumes nothing.
-use Rattle.std.proofs.Common.{◌≡◌, ℕ, zero, suc, ◌<◌, ◌≤◌, Bool, true, false, cond, ◌||◌, ltb, leb, List, [], ◌∷◌, ◌++◌, length, take, Some, None, Option, sym, refl, ap, ◌∙◌, subst, append-nil, arith, length-take}
+use Rattle.std.proofs.Common.{◌≡◌, ℕ, zero, suc, ◌<◌, ◌≤◌, Bool, true, false, cond, ◌||◌, ltb, leb, List, [], ◌∷◌, ◌++◌, length, Some, None, Option, sym, ap, ◌∙◌, append-nil, arith, length-take}
 use Rattle.std.proofs.lemmas.Bool.{cond-true, cond-false, ltb-true, leb-false, lt-leb, lt-ltb, le-leb}
 use Rattle.std.specs.List.{remove, slice_get}
 use Rattle.model.specs.Answers.{is_done, is_seen}
 use Rattle.model.specs.Limits.{most_messages, last_time}
 use Rattle.model.specs.declared.answer.Answer.{Answer}
 use Rattle.model.specs.declared.answer.Answer.TheVariants.{Done}
-use Rattle.model.specs.declared.answer.Outcome.{Outcome}
 use Rattle.model.specs.declared.answer.Outcome.TheVariants.{Plain}
 use Rattle.model.specs.declared.record.Message.{Message}
 use Rattle.model.specs.declared.record.Message.TheVariants.{Produced, Acknowledged}
 use Rattle.model.specs.declared.record.Production.{Production}
-use Rattle.law.specs.Node.{Free, hand_in, clear, raise, advance}
+use Rattle.law.specs.Node.{Free, hand_in, clear, advance}
 use Rattle.law.specs.Pair.{Kits, Pair, at_collector, at_spotter, with_link, repeat, repeat_of, arrives, as_record, reply, deliver, deliver_of, low_watermark, pass}
 use Rattle.law.proofs.Best.{low_tells}
 use Rattle.link.specs.declared.Link.{Link}

@@ -1,5 +1,5 @@
 -- A list of calls on a pair is a run of the law. Assumes nothing.
-use Rattle.std.proofs.Common.{◌≡◌, ℕ, suc, ◌≤◌, List, [], ◌∷◌, ◌++◌, length, Ok, Err, sym, refl, ap, ◌∙◌, subst, append_assoc, append-nil}
+use Rattle.std.proofs.Common.{◌≡◌, suc, ◌≤◌, List, [], ◌∷◌, ◌++◌, length, Ok, Err, sym, refl, ap, ◌∙◌, subst, append_assoc, append-nil}
 use Rattle.model.specs.Computation.{Lawful}
 use Rattle.model.specs.declared.answer.Outcome.{Outcome}
 use Rattle.model.specs.declared.call.Call.{Call}
@@ -18,7 +18,7 @@ use Rattle.node.specs.Shows.{kit_of}
 use Rattle.node.specs.declared.node.Damaged.{Damaged}
 use Rattle.pair.proofs.Telling.{ok_is, err_none}
 use Rattle.pair.specs.Promises.{Steps, free_of}
-use Rattle.pair.specs.Runs.{Ran, Extends, Carries}
+use Rattle.pair.specs.Runs.{Ran, Extends}
 use Rattle.pair.specs.Shows.{kits_of, Shows}
 use Rattle.pair.specs.declared.pair.Pair.{Pair}
 

@@ -1,16 +1,14 @@
 -- What a send comes to, by the queue. Assumes nothing.
-use Rattle.std.proofs.Common.{◌≡◌, ℕ, ◌<◌, true, false, leb, List, [], ◌∷◌, ◌++◌, length, Some, None, Option, sym, refl, ap, ◌∙◌, subst, inl, arith}
+use Rattle.std.proofs.Common.{◌≡◌, ℕ, ◌<◌, true, false, leb, List, [], ◌∷◌, length, Some, None, Option, sym, refl, ap, ◌∙◌, subst, inl, arith}
 use Rattle.std.proofs.lemmas.Bool.{cond-true, cond-false}
 use Rattle.model.specs.Limits.{most_messages, stops}
 use Rattle.model.specs.Row.{oldest}
-use Rattle.model.specs.declared.answer.Answer.TheVariants.{Done, Nothing, LinkFull}
-use Rattle.model.specs.declared.answer.Outcome.{Outcome}
+use Rattle.model.specs.declared.answer.Answer.TheVariants.{Nothing, LinkFull}
 use Rattle.model.specs.declared.answer.Outcome.TheVariants.{Plain}
-use Rattle.model.specs.declared.record.Message.TheVariants.{Produced}
 use Rattle.model.specs.declared.record.Production.{Production}
 use Rattle.law.specs.Law.{Queued}
 use Rattle.law.specs.Lists.{Mem}
-use Rattle.law.specs.Pair.{Pair, turned_node, send_from, send_head, send_pending, send}
+use Rattle.law.specs.Pair.{Pair, send_from, send_head, send_pending, send}
 use Rattle.law.specs.Stops.{pending_stops}
 use Rattle.law.proofs.Queues.{pending_right}
 use Rattle.queue.specs.Lines.{head_of}

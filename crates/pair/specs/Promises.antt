@@ -11,7 +11,7 @@ use Rattle.names.specs.declared.set.NameSet.{Ghosts as Sets}
 use Rattle.computations.specs.declared.computation.Computation.{Ghosts as Computations}
 use Rattle.law.specs.Node.{Free}
 use Rattle.law.specs.Node.{restart}
-use Rattle.law.specs.Pair.{Kits, Pair as LawPair, at_collector, at_spotter, at_node, happens}
+use Rattle.law.specs.Pair.{Pair as LawPair, at_collector, at_spotter, at_node, happens}
 use Rattle.link.specs.Carried.{carried}
 use Rattle.node.specs.declared.node.Damaged.{Damaged}
 use Rattle.pair.specs.Shows.{kits_of, collector_free, spotter_free, Shows}

@@ -1,5 +1,5 @@
 -- A replay is the run of a script, and its text the account of that run. Assumes nothing.
-use Rattle.std.proofs.Common.{◌≡◌, ℕ, ◌+◌, ◌-◌, ◌≤◌, List, [], ◌∷◌, ◌++◌, length, take, Option, sym, refl, ap, ◌∙◌, subst, arith, length-append}
+use Rattle.std.proofs.Common.{◌≡◌, ℕ, ◌+◌, ◌-◌, ◌≤◌, List, ◌++◌, length, take, Option, ap, ◌∙◌, subst, arith, length-append}
 use Rattle.model.specs.declared.answer.Fault.{Fault}
 use Rattle.model.specs.declared.answer.Outcome.{Outcome}
 use Rattle.model.specs.declared.call.Call.{Call}
@@ -8,14 +8,13 @@ use Rattle.names.specs.declared.set.NameSet.{Ghosts as Sets}
 use Rattle.computations.specs.declared.computation.Computation.{Ghosts as Computations}
 use Rattle.law.specs.Law.{Told}
 use Rattle.law.specs.Pair.{Pair as LawPair}
-use Rattle.law.specs.Run.{Event, Run}
-use Rattle.pair.specs.Runs.{Ran, Carries, Extends}
+use Rattle.pair.specs.Runs.{Ran, Carries}
 use Rattle.pair.specs.Shows.{kits_of, Shows}
 use Rattle.pair.specs.Tallies.{told_of}
 use Rattle.pair.specs.declared.pair.Pair.{Pair}
 use Rattle.pair.proofs.Running.{ran_length, ran_shows}
 use Rattle.account.specs.Account.{events_from}
-use Rattle.replay.specs.Account.{last_calls, fault_text, account_of, Replayed, Replays}
+use Rattle.replay.specs.Account.{last_calls, fault_text, Replays}
 use Rattle.replay.specs.Script.{calls_in, fault_in}
 use Rattle.replay.specs.Stops.{stop_lines}
 

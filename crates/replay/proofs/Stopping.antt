@@ -1,5 +1,5 @@
 -- The lines of the stops, one after another. Assumes nothing.
-use Rattle.std.proofs.Common.{◌≡◌, ℕ, suc, ◌+◌, List, [], ◌++◌, Option, sym, refl, ap, ◌∙◌, add-one, arith}
+use Rattle.std.proofs.Common.{◌≡◌, ℕ, suc, ◌+◌, [], ◌++◌, Option, refl, ap, ◌∙◌, add-one, arith}
 use Rattle.pair.specs.declared.pair.Stopped.{Stopped}
 use Rattle.pair.specs.declared.pair.Stopped.TheVariants.{NoMemory, Damaged}
 use Rattle.pair.specs.declared.pair.Tally.{Tally}

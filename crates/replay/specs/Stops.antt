@@ -7,7 +7,6 @@ use Rattle.names.specs.declared.set.NameSet.{Ghosts as Sets}
 use Rattle.computations.specs.declared.computation.Computation.{Ghosts as Computations}
 use Rattle.law.specs.Pair.{Pair as LawPair}
 use Rattle.pair.specs.Shows.{Shows}
-use Rattle.pair.specs.Tallies.{told_of}
 use Rattle.pair.specs.declared.pair.Pair.{Pair}
 use Rattle.pair.specs.declared.pair.Stopped.{Stopped}
 use Rattle.pair.specs.declared.pair.Stopped.TheVariants.{Damaged}

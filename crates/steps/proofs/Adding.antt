@@ -1,5 +1,5 @@
 -- Least times and sums, one production after another. Assumes nothing.
-use Rattle.std.proofs.Common.{◌≡◌, ℕ, ◌+◌, ◌*◌, ◌<◌, ◌≤◌, min, List, [], ◌∷◌, ◌++◌, map, length, get_or, take, sym, refl, ap, ◌∙◌, add-zero, add_assoc, zero-add, arith}
+use Rattle.std.proofs.Common.{◌≡◌, ℕ, ◌+◌, ◌<◌, min, List, [], ◌∷◌, ◌++◌, map, length, get_or, take, sym, refl, ap, ◌∙◌, add-zero, add_assoc, zero-add, arith}
 use Rattle.std.proofs.lemmas.List.{take_more}
 use Rattle.model.specs.declared.record.Production.{Production}
 use Rattle.law.specs.Lists.{total}

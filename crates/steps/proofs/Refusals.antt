@@ -1,5 +1,5 @@
 -- A record that finds no room for what its take emits is refused for that. Assumes nothing.
-use Rattle.std.proofs.Common.{◌≡◌, ℕ, ◌<◌, Bool, true, false, cond, ltb, leb, List, length, Some, None, Option, sym, refl, ap, ◌∙◌, arith}
+use Rattle.std.proofs.Common.{◌≡◌, ℕ, ◌<◌, Bool, true, ltb, List, length, Some, None, Option, sym, refl, ap, ◌∙◌}
 use Rattle.std.proofs.lemmas.Bool.{cond-true, cond-false, lt-leb, ltb-true}
 use Rattle.model.specs.Computation.{Computation}
 use Rattle.model.specs.Limits.{most_names}

@@ -1,5 +1,5 @@
 -- A row before and after a step. Assumes nothing.
-use Rattle.std.specs.Prelude.{◌≡◌, ℕ, ◌≤◌, Bool, true, leb, List, ◌++◌, Some, None, Option}
+use Rattle.std.specs.Prelude.{◌≡◌, ℕ, ◌≤◌, Bool, List, ◌++◌, Some, Option}
 use Rattle.model.specs.Computation.{Computation}
 use Rattle.model.specs.Limits.{last_time}
 use Rattle.model.specs.Row.{Row}

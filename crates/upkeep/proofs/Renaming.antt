@@ -1,21 +1,20 @@
 -- A set that holds exactly the names of the stops does so after some names fell and one came. Assumes nothing.
-use Rattle.std.proofs.Common.{◌≡◌, ℕ, suc, ◌<◌, ◌≤◌, Bool, true, false, cond, not, ◌&&◌, ◌||◌, eqb, ltb, leb, ◌⊎◌, List, [], ◌∷◌, ◌++◌, length, Some, None, Option, sym, refl, ap, ◌∙◌, subst, inl, inr, append-nil, zero-le, arith}
-use Rattle.std.proofs.lemmas.Bool.{cases_Bool, cond-true, cond-false, cond_both, eqb-true, eq-eqb, and_parts, and_from, or_cases, or_left, or_right, lt-ltb, ltb-true, leb-false, both_ways}
+use Rattle.std.proofs.Common.{◌≡◌, ℕ, suc, ◌<◌, ◌≤◌, Bool, true, false, cond, not, ◌&&◌, ◌||◌, eqb, ltb, leb, List, [], ◌∷◌, ◌++◌, length, Some, None, Option, sym, refl, ap, ◌∙◌, subst, inl, inr, append-nil, zero-le, arith}
+use Rattle.std.proofs.lemmas.Bool.{cases_Bool, cond-true, cond-false, cond_both, eqb-true, eq-eqb, and_parts, lt-ltb, ltb-true, leb-false, both_ways}
 use Rattle.std.proofs.lemmas.List.{length_push}
 use Rattle.std.proofs.lemmas.List.Sums.{length-filter, count_by-le-length}
 use Rattle.model.specs.Limits.{stops, most_names}
-use Rattle.model.specs.declared.answer.Answer.{Answer}
-use Rattle.model.specs.declared.answer.Answer.TheVariants.{Done, Seen, Full}
+use Rattle.model.specs.declared.answer.Answer.TheVariants.{Done}
 use Rattle.model.specs.declared.record.Name.{Name}
 use Rattle.model.specs.Names.{same_name, named, kept}
-use Rattle.names.specs.Held.{Meaning, Counted, most_taken}
-use Rattle.names.specs.Changes.{add_answer, after_add, grown, with_name, without_below}
+use Rattle.names.specs.Held.{Meaning, Counted}
+use Rattle.names.specs.Changes.{add_answer, after_add, with_name, without_below}
 use Rattle.names.specs.Rows.{InRows}
 use Rattle.names.proofs.Adding.{added_holds}
 use Rattle.names.proofs.Counting.{room}
 use Rattle.law.specs.Rows.{seen}
 use Rattle.upkeep.specs.Names.{Holds, with_names, staying, coming, renamed, Fresh, Few, dropping, adding}
-use Rattle.upkeep.proofs.Seen.{alike, seen_append, seen_kept}
+use Rattle.upkeep.proofs.Seen.{seen_append, seen_kept}
 
 -- the names are what matters, not how they are given
 pub same_holds : (m : Meaning) (a b : ℕ → List Name) → ((s : ℕ) → a s ≡ b s) → Holds m a → Holds m b

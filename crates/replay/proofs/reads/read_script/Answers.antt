@@ -1,4 +1,4 @@
-use Rattle.std.proofs.Common.{◌≡◌, ◌<◌, ◌≤◌, List, [], ◌∷◌, ◌++◌, length, Some, None, vec_items, Option, Result, sym, refl, ap, ◌∙◌, subst, arith}
+use Rattle.std.proofs.Common.{◌<◌, List, length, Some, vec_items, sym, ap, ◌∙◌, subst, arith}
 use Rattle.frames.specs.Handed.{EventOffset, handed_call, place_of}
 use Rattle.frames.specs.Reading.{call_at, next_place}
 use Rattle.model.specs.declared.call.Call.{Call}

@@ -1,4 +1,4 @@
-use Rattle.std.proofs.Common.{◌≡◌, ℕ, ◌-◌, List, length, take, vec_items, string_bytes, sym, refl, ap, ◌∙◌, arith}
+use Rattle.std.proofs.Common.{◌≡◌, ℕ, ◌-◌, List, length, take, vec_items, string_bytes, ap, ◌∙◌, arith}
 use Rattle.model.specs.declared.answer.Outcome.{Outcome}
 use Rattle.replay.specs.Script.{placed}
 use Rattle.replay.proofs.Replaying.{at_least_two, still_shown, replayed}

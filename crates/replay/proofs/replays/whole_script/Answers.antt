@@ -1,4 +1,4 @@
-use Rattle.std.proofs.Common.{◌≡◌, List, [], ◌∷◌, ◌++◌, sym, refl, ap, ◌∙◌, append_assoc}
+use Rattle.std.proofs.Common.{List, [], ◌∷◌, ◌++◌, ap, ◌∙◌, append_assoc}
 use Rattle.model.specs.declared.call.Call.{Call}
 use Rattle.replay.specs.Account.{power_on}
 use Rattle.replay.specs.Script.{calls_in}

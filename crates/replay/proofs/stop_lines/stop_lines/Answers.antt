@@ -1,10 +1,9 @@
-use Rattle.std.proofs.Common.{◌≡◌, ℕ, ◌+◌, Bool, true, not, List, ◌++◌, string_bytes, Option, sym, refl, ap, ◌∙◌, arith}
+use Rattle.std.proofs.Common.{◌≡◌, ℕ, not, List, ◌++◌, string_bytes, Option, sym, ap, ◌∙◌, arith}
 use Rattle.std.proofs.lemmas.Bool.{cond-true}
 use Rattle.model.specs.Limits.{stops}
-use Rattle.law.specs.Pair.{Pair}
 use Rattle.pair.specs.Tallies.{told_of}
 use Rattle.pair.specs.declared.pair.Tally.{Tally}
-use Rattle.replay.specs.Stops.{tally_line, stops_below}
+use Rattle.replay.specs.Stops.{stops_below}
 use Rattle.replay.proofs.Stopping.{none_below, one_more, not_damaged}
 use Rattle.replay.proofs.stop_lines.stop_lines.Goals as goal
 

@@ -1,4 +1,4 @@
-use Rattle.std.proofs.Common.{◌≡◌, ℕ, min, List, get_or, take, sym, ap, ◌∙◌}
+use Rattle.std.proofs.Common.{ℕ, min, List, get_or, sym, ap, ◌∙◌}
 use Rattle.std.proofs.lemmas.List.{take_all}
 use Rattle.model.specs.declared.record.Production.{Production}
 use Rattle.law.specs.Stops.{least_time}

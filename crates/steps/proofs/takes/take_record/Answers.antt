@@ -1,4 +1,4 @@
-use Rattle.std.proofs.Common.{◌≡◌, ℕ, max, List, Option, sym, ap, ◌∙◌, rules}
+use Rattle.std.proofs.Common.{◌≡◌, ℕ, max, List, sym, ap, ◌∙◌, rules}
 use Rattle.model.specs.OnBytes.{on_bytes}
 use Rattle.model.specs.Row.{Row}
 use Rattle.model.specs.declared.answer.Answer.TheVariants.{Done}

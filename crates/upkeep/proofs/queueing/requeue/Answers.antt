@@ -1,5 +1,4 @@
-use Rattle.std.proofs.Common.{◌≡◌, Some, sym, ◌∙◌, rules}
-use Rattle.model.specs.Row.{oldest}
+use Rattle.std.proofs.Common.{sym, ◌∙◌}
 use Rattle.rows.specs.Meaning.{row_of}
 use Rattle.upkeep.proofs.Lines.{joins}
 use Rattle.upkeep.proofs.queueing.requeue.Goals as goal

@@ -1,9 +1,7 @@
-use Rattle.std.proofs.Common.{◌≡◌, ◌<◌, ◌≤◌, true, false, leb, sym, refl, ap, ◌∙◌, arith, rules}
+use Rattle.std.proofs.Common.{◌≡◌, ◌<◌, ◌≤◌, true, sym, refl, ◌∙◌, arith, rules}
 use Rattle.std.proofs.lemmas.Bool.{cond-true, cond-false, lt-leb, le-leb}
 use Rattle.model.specs.Limits.{last_time}
 use Rattle.model.specs.OnBytes.{on_bytes}
-use Rattle.law.specs.Node.{Node as LawNode}
-use Rattle.node.specs.Shows.{free_of}
 use Rattle.node.proofs.Showing.{told_by, is_on, advanced_done, advanced_cut}
 use Rattle.node.proofs.node.Node.advance.Goals as goal
 

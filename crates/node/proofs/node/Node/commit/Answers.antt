@@ -1,4 +1,4 @@
-use Rattle.std.proofs.Common.{◌≡◌, Option, refl, ap, ◌∙◌}
+use Rattle.std.proofs.Common.{refl, ap, ◌∙◌}
 use Rattle.model.specs.OnBytes.{on_bytes}
 use Rattle.agenda.specs.Meaning.{due_at, shown_at}
 use Rattle.agenda.specs.Slots.{changed}

@@ -1,4 +1,4 @@
-use Rattle.std.proofs.Common.{◌≡◌, ℕ, true, false, Ok, sym, refl, ap, ◌∙◌, subst}
+use Rattle.std.proofs.Common.{Ok, sym, refl, ap, ◌∙◌}
 use Rattle.std.proofs.lemmas.Bool.{cond-true, cond-false}
 use Rattle.model.specs.OnBytes.{on_bytes}
 use Rattle.model.specs.Row.{Row}
@@ -6,9 +6,6 @@ use Rattle.model.specs.declared.answer.Answer.{Answer}
 use Rattle.law.specs.Node.{commit_row}
 use Rattle.model.specs.Answers.{is_done}
 use Rattle.model.specs.Row.{room_for_one}
-use Rattle.law.specs.Rows.{fired_row}
-use Rattle.rows.specs.Meaning.{row_of}
-use Rattle.steps.specs.Steps.{Reached}
 use Rattle.node.specs.Shows.{kit_of, free_of}
 use Rattle.node.proofs.Judging.{undone, fired_names}
 use Rattle.node.proofs.Showing.{told_by, rewrapped, read_is}

@@ -1,4 +1,4 @@
-use Rattle.std.proofs.Common.{◌≡◌, sym, refl, ap, ◌∙◌}
+use Rattle.std.proofs.Common.{sym, refl, ap, ◌∙◌}
 use Rattle.model.specs.Limits.{in_range}
 use Rattle.node.specs.Promises.{judged_first}
 use Rattle.node.specs.Shows.{kit_of, free_of}

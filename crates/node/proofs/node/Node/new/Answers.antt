@@ -1,4 +1,4 @@
-use Rattle.std.proofs.Common.{◌≡◌, true, sym, refl, ◌∙◌, rules}
+use Rattle.std.proofs.Common.{sym, ◌∙◌}
 use mathlib.Core.Bool.{false≢true}
 use Rattle.ledger.proofs.Blanks.{new_node, blank_new, blank_kept}
 use Rattle.node.proofs.node.Node.new.Goals as goal

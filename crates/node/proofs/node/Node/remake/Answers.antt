@@ -1,11 +1,8 @@
-use Rattle.std.proofs.Common.{◌≡◌, ℕ, Some, Option, sym, refl, ap, ◌∙◌, subst}
+use Rattle.std.proofs.Common.{◌≡◌, sym, ap, ◌∙◌, subst}
 use Rattle.model.specs.OnBytes.{on_bytes}
 use Rattle.model.specs.Store.{Stored}
 use Rattle.ledger.specs.Kept.{Kept}
-use Rattle.names.specs.Held.{Meaning}
 use Rattle.node.specs.Remaking.{ShowsBelow}
-use Rattle.node.specs.Shows.{beside_of}
-use Rattle.node.specs.declared.node.Node.{Node}
 use Rattle.node.proofs.Remaking.{follows_none, follows_all}
 use Rattle.node.proofs.node.Node.remake.Goals as goal
 

@@ -1,14 +1,10 @@
-use Rattle.std.proofs.Common.{◌≡◌, ◌<◌, List, Option, sym, refl, ap, ◌∙◌, subst}
-use Rattle.model.specs.Limits.{stops}
+use Rattle.std.proofs.Common.{sym, refl, ap, ◌∙◌, subst}
 use Rattle.model.specs.OnBytes.{on_bytes}
 use Rattle.model.specs.Row.{Row}
 use Rattle.model.specs.Store.{Stored}
-use Rattle.model.specs.declared.record.Name.{Name}
-use Rattle.model.specs.declared.record.Production.{Production}
-use Rattle.law.specs.Node.{Node as LawNode, requeued}
+use Rattle.law.specs.Node.{requeued}
 use Rattle.model.specs.Row.{oldest}
 use Rattle.ledger.specs.Kept.{Kept}
-use Rattle.names.specs.Fill.{AddedAll}
 use Rattle.queue.specs.Lines.{lined}
 use Rattle.rows.specs.Meaning.{row_of}
 use Rattle.node.specs.Shows.{beside_of}

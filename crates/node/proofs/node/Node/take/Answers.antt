@@ -1,16 +1,10 @@
-use Rattle.std.proofs.Common.{◌≡◌, ℕ, ◌<◌, ◌≤◌, true, false, cond, leb, List, length, Some, None, Ok, Option, sym, refl, ap, ◌∙◌, subst, rules}
-use Rattle.std.proofs.lemmas.Bool.{cond-true, cond-false}
-use Rattle.model.specs.Limits.{stops}
+use Rattle.std.proofs.Common.{true, length, Ok, sym, refl, ap, ◌∙◌, rules}
+use Rattle.std.proofs.lemmas.Bool.{cond-true}
 use Rattle.model.specs.OnBytes.{on_bytes}
 use Rattle.model.specs.Row.{Row}
-use Rattle.model.specs.declared.answer.Answer.{Answer}
-use Rattle.model.specs.declared.record.Name.{Name}
-use Rattle.law.specs.Node.{commit_row, hand_in}
+use Rattle.law.specs.Node.{commit_row}
 use Rattle.model.specs.Answers.{is_done}
-use Rattle.law.specs.Rows.{seen, considered, taken_row}
-use Rattle.rows.specs.Meaning.{row_of}
-use Rattle.steps.specs.Steps.{Took, Refused}
-use Rattle.upkeep.specs.Names.{renamed, Fresh}
+use Rattle.law.specs.Rows.{seen, considered}
 use Rattle.node.specs.Shows.{kit_of, free_of}
 use Rattle.node.proofs.Judging.{ranged_stop, hand_in_refused, took_fresh, took_names}
 use Rattle.node.proofs.Showing.{told_by, rewrapped, read_is}

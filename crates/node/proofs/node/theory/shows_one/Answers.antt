@@ -1,4 +1,4 @@
-use Rattle.std.proofs.Common.{◌≡◌, ℕ, ◌^◌, ◌<◌, List, sym, ap, ◌∙◌, arith}
+use Rattle.std.proofs.Common.{ℕ, ◌^◌, ◌<◌, List, sym, ap, ◌∙◌, arith}
 use Rattle.model.specs.Power.{Power}
 use Rattle.model.specs.Bytes.{u32_at}
 use Rattle.rows.proofs.RowBytes.{encoded_once}

@@ -1,6 +1,6 @@
 use Rattle.std.proofs.Common.{Ok, refl}
 use Rattle.node.proofs.Showing.{rewrapped}
-use Rattle.pair.proofs.Telling.{told_collector, told_spotter}
+use Rattle.pair.proofs.Telling.{told_collector}
 use Rattle.pair.proofs.pair.Pair.advance.Goals as goal
 
 pub returns : goal.returns

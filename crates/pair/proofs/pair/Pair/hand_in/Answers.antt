@@ -1,4 +1,4 @@
-use Rattle.pair.proofs.Telling.{told_collector, told_spotter}
+use Rattle.pair.proofs.Telling.{told_collector}
 use Rattle.pair.proofs.pair.Pair.hand_in.Goals as goal
 
 pub returns : goal.returns

@@ -1,4 +1,4 @@
-use Rattle.pair.proofs.Telling.{told_collector, told_spotter}
+use Rattle.pair.proofs.Telling.{told_spotter}
 use Rattle.pair.proofs.pair.Pair.mark_done.Goals as goal
 
 pub returns : goal.returns

@@ -1,4 +1,4 @@
-use Rattle.std.proofs.Common.{◌≡◌, [], sym, refl, ◌∙◌, rules}
+use Rattle.std.proofs.Common.{[], sym, refl, ◌∙◌, rules}
 use Rattle.pair.specs.Making.{AtHome}
 use Rattle.pair.proofs.pair.Pair.new.Goals as goal
 

@@ -1,4 +1,4 @@
-use Rattle.std.proofs.Common.{◌≡◌, ℕ, Ok, sym, refl, ap, ◌∙◌}
+use Rattle.std.proofs.Common.{ℕ, Ok, sym, refl, ap, ◌∙◌}
 use Rattle.law.specs.Node.{advance}
 use Rattle.law.specs.Pair.{at_spotter, low_watermark}
 use Rattle.node.proofs.Showing.{is_on, rewrapped}

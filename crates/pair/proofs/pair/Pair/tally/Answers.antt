@@ -1,4 +1,4 @@
-use Rattle.std.proofs.Common.{◌≡◌, ◌<◌, sym, ap, ◌∙◌, arith}
+use Rattle.std.proofs.Common.{◌<◌, sym, ◌∙◌, arith}
 use Rattle.model.specs.Limits.{stops}
 use Rattle.node.proofs.Showing.{is_on}
 use Rattle.pair.proofs.Telling.{ok_is}
