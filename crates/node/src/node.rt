@@ -1,11 +1,11 @@
 // A node: its store, and beside it what is made again from the rows at each restart.
 mod advances;
 mod clears;
+mod commits;
 mod fires;
 mod hands_in;
 mod reads;
 mod restarts;
-mod steps;
 mod theory;
 
 use agenda::{Panel, Timers};
