@@ -1,5 +1,5 @@
 // What is done with a heap: build it, put an element in, take one out, change one, look at the least.
-ghost use Rattle.std.specs.Prelude.{◌≡◌, ℕ, ◌-◌, ◌<◌, ◌≤◌, length, take, IfSome, slice_index_or, slice_set};
+ghost use Rattle.std.specs.Prelude.{◌≡◌, ◌-◌, ◌<◌, ◌≤◌, length, take, IfSome, slice_index_or, slice_set};
 ghost use Rattle.std.specs.Cmp.{IsTotalOrder};
 ghost use Rattle.std.specs.Slice.{IsGetResult};
 ghost use Rattle.std.specs.List.Sorted.{IsPermutation};

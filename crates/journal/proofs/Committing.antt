@@ -235,7 +235,7 @@ module _ (m : Medium) (r : ℕ) (b : List ℕ) (s : Sound m) (l : r < row_count)
         sound = sound_by (landed card_three 0 (mark_page 0)) 0 four_sized four_first (omega arith) (λ x. refl);
       }
 
-  -- power torn_at at one of the first two writes
+  -- power fails at one of the first two writes
   pub went_begun : (n : Medium) (a : Answer) → n ≡ written_both m 1 b 0 (mark_page (r + 1)) → a ≡ write_both_answer m r 1 b 0 → (a ≡ Done → ⊥) → Went m n r b a
   went_begun n a is e not = ⊎_elim second (⊎_elim none (λ h. absurd (not (e ∙ answer_done m r 1 b 0 (mark_page (r + 1)) in_one in_zero on h)))) (cases_order m.left 1)
     where

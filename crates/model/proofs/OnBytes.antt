@@ -1,6 +1,6 @@
 -- The laws of a computation hold of it on the 32 bytes of its state, where every 32 bytes are sound.
-use Rattle.std.proofs.Common.{◌≡◌, ℕ, ◌+◌, ◌≤◌, List, Some, None, Option, sym, refl, ap, ◌∙◌, subst}
-use Rattle.model.specs.Computation.{Computation, Lawful, Takes, Fires, Conserves, Totals, StateBytes, Emits, Upto, emitted, zero_state}
+use Rattle.std.proofs.Common.{◌≡◌, ℕ, ◌+◌, ◌≤◌, List, sym, refl, subst}
+use Rattle.model.specs.Computation.{Computation, Lawful, Takes, Fires, Conserves, Totals, StateBytes, Emits, Upto, emitted}
 use Rattle.model.specs.OnBytes.{on_bytes}
 
 module _ {S : Type 0} (c : Computation S) (Sound : S → Type 0) (l : Lawful c Sound) where

@@ -1,5 +1,5 @@
 -- What a store means, and what each of its calls answers and leaves behind. Assumes nothing.
-use Rattle.std.specs.Prelude.{◌≡◌, ℕ, Bool, cond, ◌&&◌, List, [], length, ◌==◌, nat_le, nat_lt, slice_index_or, slice_set}
+use Rattle.std.specs.Prelude.{ℕ, Bool, cond, ◌&&◌, List, [], length, ◌==◌, nat_le, nat_lt, slice_index_or, slice_set}
 use Rattle.model.specs.Limits.{page_bytes}
 use Rattle.model.specs.Power.{Power, commit_answer, renewed, spent, restart_answer, restarted}
 use Rattle.model.specs.declared.answer.Answer.{Answer}

@@ -30,7 +30,6 @@ pub trait Store {
     // The node whose card it is.
     ghost home: { Self → ℕ };
 
-    // The node whose card it is.
     fn node(&self) -> u8
         ensures { result ≡ home self.now };
 
@@ -70,7 +69,7 @@ pub trait Store {
 
     ghost owes: { (s : Self) → fit s → (model s).power.owed ≤ bound };
 
-    // A cut is reported with that node.
+    // A cut names the store's own node.
     ghost cut_at_home: { (s : Self) (row : ℕ) → (commit_cut s row).node ≡ home s };
 
     ghost wake_at_home: { (s : Self) (left : ℕ) → (restart_cut s left).node ≡ home s };
