@@ -1,5 +1,5 @@
 -- What slots say of the stops: each stop has one, with a value in it or none. Assumes nothing.
-use Rattle.std.specs.Prelude.{◌≡◌, ℕ, ◌<◌, cond, List, [], ◌∷◌, length, get_or, None, count_by, Option, ◌==◌, nat_eq, nat_lt, slice_index_or}
+use Rattle.std.specs.Prelude.{◌≡◌, ℕ, ◌<◌, cond, List, [], ◌∷◌, length, None, count_by, Option, ◌==◌, nat_eq, nat_lt, slice_index_or}
 use Rattle.std.specs.declared.cmp.Ordering.{Ordering}
 use Rattle.std.specs.Cmp.{IsTotalOrder}
 use Rattle.model.specs.Limits.{stops}
@@ -16,7 +16,7 @@ held (x ∷ xs) q = cond (x.stop == q) x.value (held xs q)
 
 -- each stop has one slot, and no other has any
 abbrev pub Single : {V : Type 0} → List (Slot V) → Type 0
-Single {V} xs = ((s : ℕ) → s < stops → count_by (λ x. nat_eq x.stop s) xs ≡ 1) × ((k : ℕ) (d : Slot V) → k < length xs → (get_or xs k d).stop < stops)
+Single {V} xs = ((s : ℕ) → s < stops → count_by (λ x. nat_eq x.stop s) xs ≡ 1) × ((k : ℕ) (d : Slot V) → k < length xs → (slice_index_or xs k d).stop < stops)
 
 -- the same of every number, where only a stop has anything
 abbrev pub held_below : {V : Type 0} → List (Slot V) → ℕ → Option V

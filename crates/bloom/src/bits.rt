@@ -1,6 +1,6 @@
 // The four bits of a name.
 ghost use Rattle.std.specs.Prelude.{◌≡◌, ◌+◌, ◌*◌, ◌%◌};
-ghost use Rattle.bloom.specs.Bits.{mixed, stride, four_bits};
+ghost use Rattle.bloom.specs.Bits.{mixed, four_bits};
 
 use model::Name;
 

@@ -1,5 +1,5 @@
 // What the two boxes are made of. All their memory is had here.
-ghost use Rattle.std.specs.Prelude.{◌≡◌, IfOk};
+ghost use Rattle.std.specs.Prelude.{IfOk};
 ghost use Rattle.boxes.specs.Parts.{JournalReady, ShadowReady};
 
 use bloom::Bloom;

@@ -1,5 +1,4 @@
 // The counter as a computation.
-ghost use Rattle.std.specs.Prelude.{◌≡◌};
 ghost use Rattle.counter.specs.Counter.{counter as counting, CounterSound, held as holding};
 ghost use Rattle.counter.specs.Laws.{counter_lawful, counter_conserves};
 

@@ -1,5 +1,5 @@
 // The hash table.
-ghost use Rattle.std.specs.Prelude.{◌≡◌, IfOk, refl};
+ghost use Rattle.std.specs.Prelude.{IfOk, refl};
 ghost use Rattle.names.specs.Changes.{Cleared};
 ghost use Rattle.hashed_names.specs.Table.{hashed_fit, hashed_meaning};
 ghost use Rattle.hashed_names.specs.Probing.{stored};

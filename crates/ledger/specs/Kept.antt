@@ -1,5 +1,5 @@
 -- A store that keeps what a node says. Assumes nothing.
-use Rattle.std.specs.Prelude.{◌≡◌, ℕ, ◌<◌, ◌≤◌, false, List, [], length, get_or, replicate, slice_index_or}
+use Rattle.std.specs.Prelude.{◌≡◌, ℕ, ◌<◌, ◌≤◌, false, List, [], length, replicate, slice_index_or}
 use Rattle.model.specs.Limits.{stops, last_time, page_bytes}
 use Rattle.model.specs.Row.{Row}
 use Rattle.model.specs.Store.{Stored}
@@ -15,7 +15,7 @@ pub record Stands (bytes : List ℕ) (r : Row) : Type 0 where
 pub record Kept (s : Stored) (n : Node) : Type 0 where
   pub count : length s.rows ≡ 33
   pub row : (q : ℕ) → q < stops → Stands (slice_index_or s.rows q []) (n.row q)
-  pub watermark : get_or s.rows stops [] ≡ encoded_watermark n.w
+  pub watermark : slice_index_or s.rows stops [] ≡ encoded_watermark n.w
   pub watermark_fits : n.w ≤ last_time
   pub power : s.power ≡ n.power
 

@@ -1,5 +1,4 @@
 // Filling a set with what a row holds.
-ghost use Rattle.std.specs.Prelude.{◌≡◌};
 ghost use Rattle.names.specs.Fill.{AddedAll};
 
 use super::set::NameSet;

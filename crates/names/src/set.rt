@@ -1,5 +1,5 @@
 // What a name set is. The definitions that its promises cite stand in specs/Held.antt and specs/Changes.antt.
-ghost use Rattle.std.specs.Prelude.{◌≡◌, ℕ, ◌≤◌};
+ghost use Rattle.std.specs.Prelude.{◌≤◌};
 ghost use Rattle.names.specs.Held.{Meaning, Counted, most_taken};
 ghost use Rattle.names.specs.Changes.{Asked, Added, Dropped, Cleared};
 

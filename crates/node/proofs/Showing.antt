@@ -1,5 +1,5 @@
 -- What a node shows after a commit. Assumes nothing.
-use Rattle.std.proofs.Common.{◌≡◌, ℕ, ◌<◌, ◌≤◌, true, List, [], ◌∷◌, Some, None, Option, sym, refl, ap, ◌∙◌, subst, arith}
+use Rattle.std.proofs.Common.{◌≡◌, ℕ, ◌<◌, ◌≤◌, true, List, Some, None, Option, sym, refl, ap, ◌∙◌, subst, arith}
 use Rattle.model.specs.Computation.{Computation}
 use Rattle.model.specs.Limits.{stops, last_time}
 use Rattle.model.specs.OnBytes.{on_bytes}
@@ -9,7 +9,6 @@ use Rattle.model.specs.declared.answer.Answer.{Answer}
 use Rattle.model.specs.declared.answer.Answer.TheVariants.{Done}
 use Rattle.model.specs.declared.answer.CutPoint.{CutPoint}
 use Rattle.model.specs.declared.record.Name.{Name}
-use Rattle.model.specs.declared.record.Production.{Production}
 use Rattle.stores.specs.declared.store.Store.{Ghosts as Stores}
 use Rattle.names.specs.declared.set.NameSet.{Ghosts as Sets}
 use Rattle.computations.specs.declared.computation.Computation.{Ghosts as Computations}
@@ -19,7 +18,6 @@ use Rattle.std.specs.Option.{option_map}
 use Rattle.rows.specs.Layout.{RowFits}
 use Rattle.rows.specs.Meaning.{row_of}
 use Rattle.rows.specs.declared.stop_row.StopRow.{StopRow}
-use Rattle.model.specs.Row.{oldest as oldest_in}
 use Rattle.law.specs.Node.{Node as LawNode, Kit, Free, requeued, commit_row, commit_watermark}
 use Rattle.model.specs.Row.{oldest}
 use Rattle.ledger.specs.Promises.{RowCommitted, WatermarkCommitted}
@@ -38,11 +36,6 @@ told_by {Shown = Shown} {wrap = wrap} {r = r} e t = subst (λ (z : Answer × Law
 -- an answer under another wrapping
 pub rewrapped : {R : Type 0} {Shown : LawNode → Type 0} (wrap : Answer → R) {a : Answer} {x : Answer × LawNode} → Told Shown (λ b. b) a x → Told Shown wrap (wrap a) x
 rewrapped wrap t = record { answer = ap wrap t.answer; shows = t.shows }
-
--- the oldest is the same in the words of a row and of the law
-pub oldest_is : (ps : List Production) → oldest_in ps ≡ oldest ps
-oldest_is [] = refl
-oldest_is (p ∷ ps) = refl
 
 -- what a commit promises for what is free, given by its parts
 pub with_free
@@ -79,7 +72,7 @@ module _ {S N C T : Type 0} (store : Stores S) (set : Sets N) (computation : Com
         → RowCommitted (store.fit v'.store) (kit_of store set computation) free (store.model v.store) (store.model v'.store) s new Done
         → Renamed (set.fit v'.names) (set.meaning v.names) (set.meaning v'.names) s floor come
         → due_at v'.timers ≡ changed s ((on_bytes computation.operations).due new.state) (due_at v.timers)
-        → shown_at v'.panel ≡ changed s (oldest_in new.pending) (shown_at v.panel)
+        → shown_at v'.panel ≡ changed s (oldest new.pending) (shown_at v.panel)
         → (Line (lined v.queue) → s < stops → lined v'.queue ≡ requeued s new.pending (lined v.queue))
         → v'.watermark ≡ v.watermark
         → Told (Shows store set computation v') (λ a. a) Done (commit_row (kit_of store set computation) free s new n)
@@ -96,7 +89,7 @@ module _ {S N C T : Type 0} (store : Stores S) (set : Sets N) (computation : Com
         record {
           names = holds;
           due = dues;
-          shown = shown ∙ ap (λ (o : Option Production). changed s o (shown_at v.panel)) (oldest_is new.pending);
+          shown = shown;
           queue_is = queues (line n (lined v.queue) f.queue_is f.queued) below;
           watermark = same_w;
         } in

@@ -1,5 +1,4 @@
 // Where the requests are, stop by stop.
-ghost use Rattle.std.specs.Prelude.{◌≡◌};
 ghost use Rattle.pair.specs.Tallies.{told_of};
 ghost use Rattle.replay.specs.Stops.{Says, stop_lines, tally_line};
 

@@ -1,5 +1,5 @@
 // Reading and setting the bits.
-ghost use Rattle.std.specs.Prelude.{◌≡◌, ℕ, ◌<◌, false, IfOk};
+ghost use Rattle.std.specs.Prelude.{◌≡◌, ◌<◌, false, IfOk};
 ghost use Rattle.bloom.specs.Bits.{with_bit, with_four, all_set};
 ghost use Rattle.bloom.specs.Filter.{bits_in};
 

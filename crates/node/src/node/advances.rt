@@ -1,5 +1,4 @@
 // The watermark advances.
-ghost use Rattle.std.specs.Prelude.{◌≡◌};
 ghost use Rattle.law.specs.Node.{advance as advance_of};
 ghost use Rattle.node.specs.Promises.{Does};
 

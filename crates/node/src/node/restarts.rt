@@ -1,5 +1,5 @@
 // Making a node, and power returns to it: what is kept beside the rows is made again from them, stops rising.
-ghost use Rattle.std.specs.Prelude.{◌≡◌, Bool, true, false};
+ghost use Rattle.std.specs.Prelude.{◌≡◌, true, false};
 ghost use Rattle.law.specs.Node.{Node as LawNode, restart as restart_of};
 ghost use Rattle.law.specs.Run.{NewNode};
 ghost use Rattle.ledger.specs.Kept.{Kept, Blank};

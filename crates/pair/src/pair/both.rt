@@ -1,5 +1,4 @@
 // What befalls either node by its number: 0 is the collector, 1 the spotter, and there is no other.
-ghost use Rattle.std.specs.Prelude.{◌≡◌};
 ghost use Rattle.model.specs.declared.call.Call.TheVariants.{Fire, Restart};
 ghost use Rattle.pair.specs.Promises.{Steps, Wakes};
 

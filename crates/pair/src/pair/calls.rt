@@ -1,5 +1,4 @@
 // The eleven calls by their names, one after another.
-ghost use Rattle.std.specs.Prelude.{◌≡◌};
 ghost use Rattle.pair.specs.Promises.{Steps};
 
 use super::Pair;

@@ -1,5 +1,5 @@
 // What befalls the collector alone.
-ghost use Rattle.std.specs.Prelude.{◌≡◌, Ok};
+ghost use Rattle.std.specs.Prelude.{Ok};
 ghost use Rattle.model.specs.declared.call.Call.TheVariants.{HandIn, Advance};
 ghost use Rattle.pair.specs.Promises.{Steps};
 

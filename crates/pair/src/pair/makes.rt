@@ -1,5 +1,5 @@
 // Making a pair.
-ghost use Rattle.std.specs.Prelude.{◌≡◌, MatchResult};
+ghost use Rattle.std.specs.Prelude.{MatchResult};
 ghost use Rattle.pair.specs.Making.{Makes, Refuses};
 
 use super::Pair;

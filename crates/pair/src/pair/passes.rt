@@ -1,5 +1,4 @@
 // The low watermark goes to the spotter.
-ghost use Rattle.std.specs.Prelude.{◌≡◌};
 ghost use Rattle.model.specs.declared.call.Call.TheVariants.{Pass};
 ghost use Rattle.pair.specs.Promises.{Steps};
 

@@ -1,5 +1,5 @@
 // A list of calls, one after another: what the law says of every run is promised here.
-ghost use Rattle.std.specs.Prelude.{◌≡◌, IfOk, IfErr};
+ghost use Rattle.std.specs.Prelude.{IfOk, IfErr};
 ghost use Rattle.pair.specs.Runs.{Ran, Carries, Stops};
 
 use super::{Pair, Stopped};

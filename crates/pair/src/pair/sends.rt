@@ -1,5 +1,5 @@
 // What goes onto the link, and what befalls it there.
-ghost use Rattle.std.specs.Prelude.{◌≡◌, Ok};
+ghost use Rattle.std.specs.Prelude.{Ok};
 ghost use Rattle.model.specs.declared.call.Call.TheVariants.{Send, Lose, Repeat};
 ghost use Rattle.pair.specs.Promises.{Steps};
 

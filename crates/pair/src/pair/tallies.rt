@@ -1,5 +1,4 @@
 // Where the requests for a stop are: open, pending, landed.
-ghost use Rattle.std.specs.Prelude.{◌≡◌};
 ghost use Rattle.pair.specs.Tallies.{Tells};
 
 use super::{Pair, Tally};

@@ -1,5 +1,5 @@
 // What befalls the spotter alone.
-ghost use Rattle.std.specs.Prelude.{◌≡◌, Ok};
+ghost use Rattle.std.specs.Prelude.{Ok};
 ghost use Rattle.model.specs.declared.call.Call.TheVariants.{Show, MarkDone};
 ghost use Rattle.pair.specs.Promises.{Steps};
 

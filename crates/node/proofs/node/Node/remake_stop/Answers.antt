@@ -6,11 +6,10 @@ use Rattle.law.specs.Node.{requeued}
 use Rattle.model.specs.Row.{oldest}
 use Rattle.ledger.specs.Kept.{Kept}
 use Rattle.queue.specs.Lines.{lined}
-use Rattle.rows.specs.Meaning.{row_of}
 use Rattle.node.specs.Shows.{beside_of}
 use Rattle.node.specs.declared.node.Node.{Node}
 use Rattle.node.proofs.Remaking.{same_added, follows_more}
-use Rattle.node.proofs.Showing.{read_is, oldest_is}
+use Rattle.node.proofs.Showing.{read_is}
 use Rattle.node.proofs.node.Node.remake_stop.Goals as goal
 
 pub returns-in-Some : goal.returns-in-Some
@@ -39,7 +38,7 @@ returns-in-Some g c = λ below.
             follows =
                 follows_more ops i (beside_of store set computation v) (beside_of store set computation v') n below (shows.kept.row i below).fits.few_names shows.follows _ _ _ added
                 c.set.ensures (c.due_in.ensures ∙ ap ops.due (c.state.ensures ∙ ap (λ (r : Row). r.state) row_is))
-                c.set-in-Some.ensures (c.oldest.ensures ∙ oldest_is (row_of row).pending ∙ ap (λ (r : Row). oldest r.pending) row_is)
+                c.set-in-Some.ensures (c.oldest.ensures ∙ ap (λ (r : Row). oldest r.pending) row_is)
                 (λ line low. c.requeue.ensures line low ∙ ap (λ (r : Row). requeued i r.pending (lined v.queue)) row_is) refl;
           };
       fits = λ fit. (read fit).fits;
