@@ -30,8 +30,6 @@ pub fn account_of(heap: Global, script: &[u8]) -> Result<String, Stopped>
         parts.spotter_store,
         parts.spotter_names,
     );
-    let Ok(mut boxes) = made else {
-        return Err(Stopped::NoMemory);
-    };
+    let Ok(mut boxes) = made else { unreachable!() };
     replay(heap, &mut boxes, script)
 }

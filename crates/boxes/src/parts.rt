@@ -45,7 +45,7 @@ fn collector_store(heap: Global) -> Result<CollectorStore, AllocError>
 {
     match Journal::format(Card::blank(heap, 0, 35)?) {
         Ok(journal) => Ok(Cached::new(journal)),
-        Err(_) => Err(AllocError),
+        Err(_) => unreachable!(),
     }
 }
 
@@ -54,6 +54,6 @@ fn spotter_store(heap: Global) -> Result<Shadow, AllocError>
 {
     match Shadow::format(Card::blank(heap, 1, 67)?) {
         Ok(shadow) => Ok(shadow),
-        Err(_) => Err(AllocError),
+        Err(_) => unreachable!(),
     }
 }
