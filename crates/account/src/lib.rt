@@ -12,7 +12,7 @@ fn event_line(heap: Global, number: usize, outcome: Outcome) -> Result<String, A
     ensures { IfOk result (λ s. string_bytes s ≡ event_line number outcome) }
 {
     match outcome {
-        Outcome::Plain(answer) => plain_line(heap, number, answer.number()),
+        Outcome::Plain(answer) => plain_line(heap, number, u8::from(answer)),
         Outcome::Shown { stop, production } => {
             let serial = production.serial;
             let time = production.time;

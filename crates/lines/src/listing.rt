@@ -31,7 +31,7 @@ pub fn list_script(heap: Global, script: &[u8]) -> Result<String, AllocError>
         number += 1;
         let line = match next {
             Ok(event) => entry(heap, number, event.offset, event.call)?,
-            Err(misfit) => fault_line(heap, misfit.fault.number(), misfit.offset)?,
+            Err(misfit) => fault_line(heap, u8::from(misfit.fault), misfit.offset)?,
         };
         text.push_str(line.as_str())?;
     }

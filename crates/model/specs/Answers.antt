@@ -1,5 +1,5 @@
 -- The number of each answer and of each fault. Assumes nothing.
-use Rattle.std.specs.Prelude.{ℕ, Bool, true, false, ◌==◌}
+use Rattle.std.specs.Prelude.{ℕ, Bool, true, false, ◌==◌, Result, Ok, Err}
 use Rattle.model.specs.declared.answer.Answer.{Answer}
 use Rattle.model.specs.declared.answer.Answer.TheVariants.{Done, OutOfRange, Off, Late, Seen, Early, Over, Full, NoRoom, Cut, Nothing, LinkFull, NoMessage, NotOldest}
 use Rattle.model.specs.declared.answer.Outcome.{Outcome}
@@ -48,6 +48,23 @@ is_seen a = answer_number a == 4
 
 abbrev pub is_cut : Answer → Bool
 is_cut a = answer_number a == 9
+
+-- an answer as a result: all but `Done` are handed on
+abbrev pub as_result : Answer → Result Unit Answer
+as_result Done = Ok tt
+as_result OutOfRange = Err OutOfRange
+as_result Off = Err Off
+as_result Late = Err Late
+as_result Seen = Err Seen
+as_result Early = Err Early
+as_result Over = Err Over
+as_result Full = Err Full
+as_result NoRoom = Err NoRoom
+as_result (Cut at) = Err (Cut at)
+as_result Nothing = Err Nothing
+as_result LinkFull = Err LinkFull
+as_result NoMessage = Err NoMessage
+as_result NotOldest = Err NotOldest
 
 -- a show that is done carries the production shown
 abbrev pub outcome_answer : Outcome → Answer

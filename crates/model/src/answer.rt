@@ -1,6 +1,6 @@
 // What a call answers, and what is wrong with a file of frames. Each case has a number, by which programs print it.
 ghost use Rattle.std.specs.Prelude.{◌≡◌};
-ghost use Rattle.model.specs.Answers.{answer_number, fault_number, outcome_answer};
+ghost use Rattle.model.specs.Answers.{answer_number, as_result, fault_number, outcome_answer};
 
 use super::record::Production;
 
@@ -32,10 +32,22 @@ pub enum Answer {
 }
 
 impl Answer {
-    pub fn number(&self) -> u8
-        ensures { result ≡ answer_number self.now }
+    // `Ok` if the call was done, and otherwise the answer, so that `?` hands it on.
+    pub fn done(self) -> Result<(), Answer>
+        ensures { result ≡ as_result self }
     {
         match self {
+            Answer::Done => Ok(()),
+            other => Err(other),
+        }
+    }
+}
+
+impl From<Answer> for u8 {
+    ghost from_gives = { λ answer number. number ≡ answer_number answer };
+
+    fn from(answer: Answer) -> u8 {
+        match answer {
             Answer::Done => 0,
             Answer::OutOfRange => 1,
             Answer::Off => 2,
@@ -61,12 +73,12 @@ pub enum Outcome {
     Shown { stop: u16, production: Production },
 }
 
-impl Outcome {
-    pub fn answer(&self) -> Answer
-        ensures { result ≡ outcome_answer self.now }
-    {
-        match self {
-            Outcome::Plain(answer) => *answer,
+impl From<Outcome> for Answer {
+    ghost from_gives = { λ outcome answer. answer ≡ outcome_answer outcome };
+
+    fn from(outcome: Outcome) -> Answer {
+        match outcome {
+            Outcome::Plain(answer) => answer,
             Outcome::Shown { .. } => Answer::Done,
         }
     }
@@ -83,23 +95,17 @@ pub enum Verdict {
 // What is wrong with a file of frames, or with the room for writing one.
 #[derive(Clone, Copy, PartialEq, Eq, Debug)]
 pub enum Fault {
-    HeaderShort,
-    UnknownKind,
-    WrongLength,
-    BodyShort,
-    BufferTooSmall,
+    HeaderShort = 20,
+    UnknownKind = 21,
+    WrongLength = 22,
+    BodyShort = 23,
+    BufferTooSmall = 24,
 }
 
-impl Fault {
-    pub fn number(&self) -> u8
-        ensures { result ≡ fault_number self.now }
-    {
-        match self {
-            Fault::HeaderShort => 20,
-            Fault::UnknownKind => 21,
-            Fault::WrongLength => 22,
-            Fault::BodyShort => 23,
-            Fault::BufferTooSmall => 24,
-        }
+impl From<Fault> for u8 {
+    ghost from_gives = { λ fault number. number ≡ fault_number fault };
+
+    fn from(fault: Fault) -> u8 {
+        fault as u8
     }
 }

@@ -47,7 +47,7 @@ fn act_of(draw: u32) -> Act {
 fn answer_of<N: NameSet>(set: &mut N, act: Act) -> u8 {
     match act {
         Act::Ask(stop, name) => { if set.has(stop, name) { YES } else { NO } }
-        Act::Add(stop, name) => set.add(stop, name).number(),
+        Act::Add(stop, name) => u8::from(set.add(stop, name)),
         Act::Drop(stop, floor) => {
             set.drop_below(stop, floor);
             0

@@ -21,7 +21,7 @@ fn check(holds: bool, what: &str) -> Result<(), Fail> {
 // Adds a name, which answers this number.
 fn adds<N: NameSet>(set: &mut N, stop: u16, name: Name, number: u8) -> Result<(), Fail> {
     check(
-        set.add(stop, name).number() == number,
+        u8::from(set.add(stop, name)) == number,
         "an add has another answer",
     )
 }
@@ -38,7 +38,7 @@ fn fills_up<N: NameSet>(set: &mut N) -> Result<(), Fail> {
     }
     adds(set, 3, named(5000, 60), 7)?;
     check(
-        set.add(0, named(0, 60)).number() == 4,
+        u8::from(set.add(0, named(0, 60))) == 4,
         "a name that is there is seen, not refused",
     )?;
     check(
@@ -51,7 +51,7 @@ fn fills_up<N: NameSet>(set: &mut N) -> Result<(), Fail> {
     }
     set.drop_below(5, 61);
     check(
-        set.add(3, named(5000, 60)).number() == 0,
+        u8::from(set.add(3, named(5000, 60))) == 0,
         "what was dropped left room",
     )
 }
@@ -68,7 +68,7 @@ fn drops_below_the_floor<N: NameSet>(set: &mut N) -> Result<(), Fail> {
     check(set.has(4, named(3, 121)), "above the floor")?;
     check(set.has(5, named(1, 119)), "another stop's")?;
     check(
-        set.add(4, named(1, 119)).number() == 0,
+        u8::from(set.add(4, named(1, 119))) == 0,
         "what is gone can come again",
     )
 }

@@ -77,7 +77,7 @@ fn measure_add<N: NameSet>(rt: &HostRuntime, set: &mut N, count: u32) -> anyhow:
         let start = Instant::now(rt)?;
         for k in 0..BATCH {
             let i = count.wrapping_add(k);
-            let answer = set.add(stop_of(i), named(i)).number();
+            let answer = u8::from(set.add(stop_of(i), named(i)));
             hits = hits.saturating_add(u32::from(answer == 0));
         }
         nanos = nanos.saturating_add(start.elapsed(rt)?.as_nanos());

@@ -32,7 +32,7 @@ impl fmt::Display for Seen {
     fn fmt<W: fmt::Write>(&self, f: &mut fmt::Formatter<W>) -> fmt::Result {
         match self.answer {
             Answer::Cut(at) => write!(f, "9 at {}/{}/{:<2}", at.node, at.row, at.page)?,
-            answer => write!(f, "{:<11}", answer.number())?,
+            answer => write!(f, "{:<11}", u8::from(answer))?,
         }
         let on = if self.on { "on " } else { "off" };
         let row = match self.row {

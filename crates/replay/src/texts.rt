@@ -30,7 +30,7 @@ fn fault_text(heap: Global, fault: Option<Misfit>) -> Result<String, AllocError>
     ensures { IfOk result (λ t. string_bytes t ≡ fault_text (placed fault)) }
 {
     match fault {
-        Some(misfit) => fault_line(heap, misfit.fault.number(), misfit.offset),
+        Some(misfit) => fault_line(heap, u8::from(misfit.fault), misfit.offset),
         None => Ok(String::new(heap)),
     }
 }
