@@ -15,7 +15,7 @@ impl Places {
     fn insert(&mut self, taken: Taken) -> bool
         ensures { Inserted (slots_of self.old) taken result (slots_of self.new) }
     {
-        let Spot::Free(place) = self.find(taken.stop, taken.name) else {
+        let Spot::Free(place) = self.find(taken) else {
             return false;
         };
         self.put(place, taken);
