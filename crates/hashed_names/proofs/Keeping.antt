@@ -3,7 +3,9 @@ use Rattle.std.proofs.Common.{◌≡◌, ℕ, ◌+◌, ◌<◌, ◌≤◌, Bool,
 use mathlib.Core.Path.{fun_ext}
 use Rattle.std.proofs.Math.Logic.{∥∥₁_elim, ∥∥₁_prop}
 use Rattle.std.specs.Coded.{Coded-set, coded_bool}
+use Rattle.std.specs.List.{list_any}
 use Rattle.std.proofs.lemmas.List.{take_more, take_all}
+use Rattle.std.proofs.lemmas.List.Folds.{list_any_at}
 use Rattle.std.proofs.lemmas.Bool.Decides.{nat_tests}
 use Rattle.std.proofs.lemmas.Bool.{both_ways, cases_Bool, and_from, and_left, and_parts, not_from_false}
 use Rattle.model.specs.declared.answer.Answer.TheVariants.{Done, Full}
@@ -82,21 +84,28 @@ module _ {xs ys : List (Option Taken)} {count s i : ℕ} {n : Name} (size : leng
       held : listed (stored ys) ≡ with_name (listed (stored xs)) s n
       held = fun_ext (λ t. fun_ext (λ k. ∥∥₁_elim sound (Coded-set coded_bool _ _) (λ f. ap (λ hs. hs t k) (put.held f.chained (omega (arith, f.counted))))))
 
--- a place that is free, or whose name is not one of the stop's below the floor
-abbrev pub Stays : ℕ → ℕ → Option Taken → Type 0
-Stays s floor None = Unit {0}
-Stays s floor (Some p) = is_below s floor p ≡ false
+-- a place whose name is one of the stop's below the floor
+abbrev pub goes : ℕ → ℕ → Option Taken → Bool
+goes s floor None = false
+goes s floor (Some p) = is_below s floor p
 
 -- where all names stay, nothing is left out
-pub all_stay : (xs : List (Option Taken)) (s floor : ℕ) → ((j : ℕ) → j < length xs → Stays s floor (at xs j)) → listed (stored xs) ≡ without_below (listed (stored xs)) s floor
+pub all_stay : (xs : List (Option Taken)) (s floor : ℕ) → list_any (goes s floor) xs ≡ false → listed (stored xs) ≡ without_below (listed (stored xs)) s floor
 all_stay xs s floor f = fun_ext (λ t. fun_ext (λ k. each t k))
   where
+    stays : (j : ℕ) → j < length xs → goes s floor (at xs j) ≡ false
+    stays j l =
+        elim (cases_Bool (goes s floor (at xs j))) [
+          | inl e ↦ absurd (both_ways _ f (list_any_at (goes s floor) xs j None l e))
+          | inr e ↦ e
+        ]
+
     each : (t : ℕ) (k : Name) → listed (stored xs) t k ≡ (listed (stored xs) t k && not (is_below s floor (taken t k)))
     each t k =
         elim (cases_Bool (listed (stored xs) t k)) [
           | inl e ↦
               let found = stored_at xs t k e in
-              let stays : is_below s floor (taken t k) ≡ false = subst (Stays s floor) found.2 (f found.0 found.1) in
+              let stays : is_below s floor (taken t k) ≡ false = subst (λ o. goes s floor o ≡ false) found.2 (stays found.0 found.1) in
               e ∙ sym (and_from _ _ e (not_from_false _ stays))
           | inr e ↦ e ∙ sym (and_left _ (not (is_below s floor (taken t k))) e)
         ]

@@ -26,14 +26,9 @@ impl Places {
     pub(crate) fn has_below(&self, stop: u16, floor: u32) -> bool
         ensures { result ≡ false → listed (stored (slots_of self.now)) ≡ without_below (listed (stored (slots_of self.now))) stop floor }
     {
-        for slot in self.slots.as_slice() {
-            if let Some(taken) = slot {
-                if taken.is_below(stop, floor) {
-                    return true;
-                }
-            }
-        }
-        false
+        self.slots
+            .iter()
+            .any(|slot| matches!(slot, Some(taken) if taken.is_below(stop, floor)))
     }
 
     // Puts all names but the stop's below the floor into other places, which are cleared first, and counts them.
@@ -42,7 +37,7 @@ impl Places {
     {
         other.clear();
         let mut count = 0;
-        for slot in self.slots.as_slice() {
+        for slot in &self.slots {
             let Some(taken) = slot else {
                 continue;
             };
