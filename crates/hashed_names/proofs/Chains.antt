@@ -7,8 +7,12 @@ use Rattle.names.specs.declared.taken.Taken.{Taken}
 use Rattle.names.specs.Held.{same_taken, listed}
 use Rattle.names.proofs.Listing.{taken, is_same}
 use Rattle.hashed_names.specs.Probing.{home_of, place_of, stored, at, Reached, Chained}
-use Rattle.hashed_names.specs.Places.{FreeAt, Crowded}
+use Rattle.hashed_names.specs.declared.places.Places.{Places}
+use Rattle.hashed_names.specs.Places.{slots_of, FreeAt, Crowded}
 use Rattle.hashed_names.proofs.Storing.{stored_at, at_stored, length-crowded, at_none}
+
+pub long : (p : Places) → length (slots_of p) ≡ 2048
+long p = sym p.slots.ok.0 ∙ p.long
 
 -- a place that another name has taken
 abbrev pub Other : Option Taken → ℕ → Name → Type 0

@@ -6,6 +6,11 @@ use Rattle.names.specs.declared.taken.Taken.{Taken}
 use Rattle.model.specs.Names.{same_name}
 use Rattle.names.specs.Held.{same_taken, listed}
 
+pub or_swap : (a b c : Bool) → (a || (b || c)) ≡ (b || (a || c))
+or_swap true true c = refl
+or_swap true false c = refl
+or_swap false b c = refl
+
 -- a name taken at a stop
 abbrev pub taken : ℕ → Name → Taken
 taken s n = record { stop = s; name = n }

@@ -1,5 +1,5 @@
 -- Lists that climb: what is found in one, what goes in, and what is taken out.
-use Rattle.std.specs.Prelude.{◌≡◌, ℕ, ◌+◌, ◌-◌, ◌<◌, ◌≤◌, Bool, true, false, ◌||◌, ◌⊎◌, List, ◌∷◌, ◌++◌, length, get_or, take, drop, ◌≢◌, slice_index_or, refl}
+use Rattle.std.specs.Prelude.{◌≡◌, ℕ, ◌+◌, ◌-◌, ◌<◌, ◌≤◌, true, ◌||◌, ◌⊎◌, List, ◌∷◌, ◌++◌, length, get_or, take, drop, ◌≢◌, slice_index_or}
 use Rattle.std.proofs.Common.{sym, ap, subst, ◌∙◌, inl, inr, arith, length-drop}
 use Rattle.std.proofs.Math.Path.{fun_ext}
 use Rattle.std.specs.List.{insert}
@@ -12,7 +12,7 @@ use Rattle.names.specs.declared.taken.Taken.{Taken}
 use Rattle.names.specs.Held.{same_taken, listed, most_taken}
 use Rattle.names.specs.Changes.{with_name, Added}
 use Rattle.names.proofs.Adding.{added_done}
-use Rattle.names.proofs.Listing.{taken, listed_append, at_listed}
+use Rattle.names.proofs.Listing.{or_swap, taken, listed_append, at_listed}
 use Rattle.sorted_names.specs.Order.{before, Climbs, Splits, Absent}
 use Rattle.sorted_names.proofs.Ordered.{before_total}
 
@@ -61,15 +61,10 @@ climbs_inserted xs i s n up w a b d lt l = go (cases_lt b i) (cases_lt a i) (cas
 pub listed_inserted : (xs : List Taken) (i s : ℕ) (n : Name) → listed (insert xs i (taken s n)) ≡ with_name (listed xs) s n
 listed_inserted xs i s n = fun_ext (λ t. fun_ext (λ k. at t k))
   where
-    turned : (a b c : Bool) → (a || (b || c)) ≡ (b || (a || c))
-    turned true true c = refl
-    turned true false c = refl
-    turned false b c = refl
-
     at : (t : ℕ) (k : Name) → listed (take i xs ++ taken s n ∷ drop i xs) t k ≡ (same_taken (taken s n) t k || listed xs t k)
     at t k =
         listed_append (take i xs) (taken s n ∷ drop i xs) t k
-        ∙ turned (listed (take i xs) t k) (same_taken (taken s n) t k) (listed (drop i xs) t k)
+        ∙ or_swap (listed (take i xs) t k) (same_taken (taken s n) t k) (listed (drop i xs) t k)
         ∙ ap (λ b. same_taken (taken s n) t k || b) (sym (listed_append (take i xs) (drop i xs) t k) ∙ ap (λ zs. listed zs t k) (take-append-drop i xs))
 
 -- a stretch is taken out

@@ -37,6 +37,7 @@ impl Places {
         ensures { Found (slots_of self.now) taken.stop taken.name result }
     {
         let home = home_of(taken);
+        // No plainer as a chain, which would look at the place where it ends once more.
         for step in 0..PLACES {
             let place = (home + step) % PLACES;
             let Some(other) = self.slots[place] else {
