@@ -1,4 +1,3 @@
 mod Decoding
 mod ReadingBack
 mod Spelt
-mod Stages
