@@ -1,7 +1,7 @@
 -- A body is the bytes of the numbers that were read from it.
 use Rattle.std.proofs.Common.{◌≡◌, ℕ, ◌+◌, List, [], ◌∷◌, ◌++◌, length, get_or}
 use Rattle.model.specs.Bytes.{u16_bytes, u32_bytes}
-use Rattle.frames.proofs.Spelt.{spelt_out}
+use Rattle.frames.specs.Spelt.{spelt_out}
 
 -- the bytes of a number of two bytes, or of four, that was read at a place
 abbrev pub Two : List ℕ → ℕ → ℕ → Type 0

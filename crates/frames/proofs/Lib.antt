@@ -1,3 +1,2 @@
 mod Decoding
 mod ReadingBack
-mod Spelt

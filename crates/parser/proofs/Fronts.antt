@@ -1,18 +1,18 @@
--- The longest front that passes a test, counted byte by byte.
-use Rattle.std.proofs.Common.{◌≡◌, ℕ, ◌+◌, ◌<◌, ◌≤◌, Bool, true, false, List, length, get_or, drop, arith}
-use Rattle.std.specs.List.{prefix_len}
-use Rattle.std.proofs.lemmas.List.Sums.{prefix_len-drop_yes, prefix_len-drop_no, prefix_len-drop_all}
+-- The longest front that passes a test ends where the first other byte stands.
+use Rattle.std.proofs.Common.{◌≡◌, ℕ, ◌+◌, ◌<◌, Bool, true, false, List, ◌∷◌, length, Option, unwrap_or, refl, ◌∙◌, arith}
+use Rattle.std.specs.List.{prefix_len, AllWithin, HoldsAt}
+use Rattle.std.specs.Option.{MatchOption}
+use Rattle.std.proofs.lemmas.Bool.{cond-true, cond-false}
+use Rattle.std.proofs.lemmas.Iterator.{index_from_first}
 
--- n bytes have passed
-abbrev pub Passed : (ℕ → Bool) → List ℕ → ℕ → Type 0
-Passed p xs n = (n ≤ length xs) × (prefix_len p xs ≡ n + prefix_len p (drop n xs))
+module _ (p : ℕ → Bool) where
+  hit : (x : ℕ) (xs : List ℕ) → p x ≡ false → prefix_len p (x ∷ xs) ≡ 0
+  hit x xs e = cond-false (p x) _ 0 e
 
-module _ (p : ℕ → Bool) (xs : List ℕ) (n : ℕ) (so_far : Passed p xs n) where
-  pub one_more : n < length xs → p (get_or xs n 0) ≡ true → Passed p xs (n + 1)
-  one_more h e = (omega arith, omega (arith, so_far.1, prefix_len-drop_yes p xs n 0 h e))
+  miss : (x : ℕ) (xs : List ℕ) → p x ≡ true → prefix_len p (x ∷ xs) ≡ prefix_len p xs + 1
+  miss x xs e = cond-true (p x) _ 0 e ∙ omega arith
 
-  pub stops : n < length xs → p (get_or xs n 0) ≡ false → n ≡ prefix_len p xs
-  stops h e = omega (arith, so_far.1, prefix_len-drop_no p xs n 0 h e)
-
-  pub ends : length xs ≤ n → n ≡ prefix_len p xs
-  ends h = omega (arith, so_far.1, prefix_len-drop_all p xs n h)
+  pub until : (xs : List ℕ) (r : Option ℕ)
+      → MatchOption r (AllWithin (λ x. p x ≡ true) xs 0 (length xs)) (λ i. (i < length xs) × HoldsAt (λ x. p x ≡ false) xs i × AllWithin (λ x. p x ≡ true) xs 0 i)
+      → prefix_len p xs ≡ unwrap_or r (length xs)
+  until xs r h = index_from_first (prefix_len p) (λ x. p x ≡ false) (λ x. p x ≡ true) refl hit miss xs r h
