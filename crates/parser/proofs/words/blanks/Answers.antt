@@ -1,7 +1,7 @@
 use Rattle.std.proofs.Common.{◌≡◌, true, false, rules, tests, sym, ◌∙◌}
 use Rattle.std.proofs.lemmas.Iterator.{IsFirst-from_position, YieldsList-from_slice}
 use Rattle.parser.specs.Words.{blank}
-use Rattle.parser.proofs.Fronts.{until}
+use Rattle.parser.specs.Fronts.{until}
 use Rattle.parser.proofs.words.blanks.Goals as goal
 
 pub returns-clause-value : goal.returns-clause-value

@@ -1,4 +1,4 @@
--- The longest front that passes a test ends where the first other byte stands.
+-- The longest front that passes a test ends where the first other byte stands. Assumes nothing.
 use Rattle.std.proofs.Common.{◌≡◌, ℕ, ◌+◌, ◌<◌, Bool, true, false, List, ◌∷◌, length, Option, unwrap_or, refl, ◌∙◌, arith}
 use Rattle.std.specs.List.{prefix_len, AllWithin, HoldsAt}
 use Rattle.std.specs.Option.{MatchOption}
