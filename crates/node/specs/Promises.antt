@@ -1,6 +1,5 @@
 -- What the calls of a node promise. Assumes nothing.
-use Rattle.std.specs.Prelude.{◌≡◌, ℕ, ◌<◌, Bool, true, cond, Some, None, Ok, Option, Result, nat_le}
-use Rattle.std.specs.Option.{option_map}
+use Rattle.std.specs.Prelude.{◌≡◌, ℕ, ◌<◌, Bool, true, cond, IsOkAnd, Some, None, Ok, Option, Result, nat_le}
 use Rattle.model.specs.Limits.{stops}
 use Rattle.model.specs.Row.{Row}
 use Rattle.model.specs.declared.answer.Answer.{Answer}
@@ -52,9 +51,9 @@ module _ {S N C T : Type 0} (store : Stores S) (set : Sets N) (computation : Com
     pub restarts : store.fit v.store → store.restart_cut v'.store ≡ store.restart_cut v.store
 
   -- a stop's row was read
-  pub record Read (s : ℕ) (r : Option StopRow) : Type 0 where
+  pub record Read (s : ℕ) (r : Result StopRow Damaged) : Type 0 where
     pub stays : Stays
-    pub row : (n : LawNode) → Shows store set computation v n → n.power.on ≡ true → s < stops → option_map row_of r ≡ Some (n.row s)
+    pub row : (n : LawNode) → Shows store set computation v n → n.power.on ≡ true → s < stops → IsOkAnd r (λ row. row_of row ≡ n.row s)
 
   -- a name was asked for
   pub record Asked (s : ℕ) (k : Name) (r : Bool) : Type 0 where

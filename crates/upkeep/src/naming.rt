@@ -16,20 +16,16 @@ pub fn rename<N: NameSet>(names: &mut N, stop: u16, floor: Option<u32>, come: Op
 fn forget<N: NameSet>(names: &mut N, stop: u16, floor: Option<u32>)
     ensures { N.fit names.old → Forgot (N.fit names.new) (N.meaning names.old) (N.meaning names.new) stop floor }
 {
-    match floor {
-        Some(floor) => names.drop_below(stop, floor),
-        None => {}
+    if let Some(floor) = floor {
+        names.drop_below(stop, floor);
     }
 }
 
 fn remember<N: NameSet>(names: &mut N, stop: u16, come: Option<Name>)
     ensures { N.fit names.old → Remembered (N.fit names.new) (N.meaning names.old) (N.meaning names.new) stop come }
 {
-    match come {
-        Some(name) => {
-            let _ = names.add(stop, name);
-        }
-        None => {}
+    if let Some(name) = come {
+        let _ = names.add(stop, name);
     }
 }
 
@@ -37,5 +33,5 @@ fn remember<N: NameSet>(names: &mut N, stop: u16, come: Option<Name>)
 pub fn fallen(before: usize, after: usize, floor: u32) -> Option<u32>
     ensures { result ≡ (if nat_le after before then Some floor else None) }
 {
-    if after <= before { Some(floor) } else { None }
+    (after <= before).then_some(floor)
 }

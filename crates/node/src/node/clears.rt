@@ -23,9 +23,7 @@ impl<S: Store, N: NameSet, C: Computation> Node<S, N, C> {
         if !self.is_on() {
             return Ok(Answer::Off);
         }
-        let Some(mut row) = self.row(stop) else {
-            return Err(Damaged);
-        };
+        let mut row = self.row(stop)?;
         if !is_oldest(&row, serial) {
             return Ok(Answer::NotOldest);
         }
@@ -37,8 +35,5 @@ impl<S: Store, N: NameSet, C: Computation> Node<S, N, C> {
 fn is_oldest(row: &StopRow, serial: u32) -> bool
     ensures { result ≡ is_oldest serial (row_of row.now).pending }
 {
-    match row.pending() {
-        [] => false,
-        [oldest, ..] => oldest.serial == serial,
-    }
+    row.oldest().is_some_and(|oldest| oldest.serial == serial)
 }

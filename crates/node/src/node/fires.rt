@@ -33,19 +33,15 @@ impl<S: Store, N: NameSet, C: Computation> Node<S, N, C> {
     fn due_stop(&self) -> Option<u16>
         ensures { result ≡ due_by self.now.watermark (earliest (due_at self.now.timers)) }
     {
-        match self.timers.first() {
-            Some((stop, due)) if due <= self.watermark => Some(stop),
-            _ => None,
-        }
+        let reached = self.timers.first().filter(|(_, due)| *due <= self.watermark);
+        reached.map(|(stop, _)| stop)
     }
 
     // Fires the due of a stop that the watermark has reached.
     fn fire_stop(&mut self, stop: u16) -> Result<Answer, Damaged>
         ensures { AnswersIf S.Store N.NameSet C.Computation self.old self.new (λ n. (n.power.on ≡ true) × (stop < stops) × Reached (on_bytes C.operations) n.w (n.row stop)) result (λ kit free n. fire_as kit free stop (room_for_one (n.row stop)) n) }
     {
-        let Some(mut row) = self.row(stop) else {
-            return Err(Damaged);
-        };
+        let mut row = self.row(stop)?;
         match fire_row::<C>(&mut row, self.watermark) {
             Ok(floor) => Ok(self.commit(stop, &row, Some(floor), None)),
             Err(refusal) => Ok(refusal),

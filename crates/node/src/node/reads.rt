@@ -53,10 +53,7 @@ impl<S: Store, N: NameSet, C: Computation> Node<S, N, C> {
     {
         let mut low = self.watermark;
         for stop in 0..32 {
-            match self.row(stop) {
-                Some(row) => low = low_in::<C>(&row, low),
-                None => return Err(Damaged),
-            }
+            low = low_in::<C>(&self.row(stop)?, low);
         }
         Ok(low)
     }
@@ -65,10 +62,7 @@ impl<S: Store, N: NameSet, C: Computation> Node<S, N, C> {
     pub fn pending_amount(&mut self, stop: u16) -> Result<u32, Damaged>
         ensures { Finds S.Store N.NameSet C.Computation self.old self.new (λ n. (n.power.on ≡ true) × (stop < stops)) result (λ n. total (map (λ p. p.amount) (n.row stop).pending)) }
     {
-        match self.row(stop) {
-            Some(row) => Ok(pending_amount(&row)),
-            None => Err(Damaged),
-        }
+        Ok(pending_amount(&self.row(stop)?))
     }
 }
 
@@ -77,10 +71,7 @@ impl<S: Store, N: NameSet, C: Conserving> Node<S, N, C> {
     pub fn held(&mut self, stop: u16) -> Result<u32, Damaged>
         ensures { Finds S.Store N.NameSet C.Computation self.old self.new (λ n. (n.power.on ≡ true) × (stop < stops)) result (λ n. C.holds (C.Computation.operations.load (n.row stop).state)) }
     {
-        match self.row(stop) {
-            Some(row) => Ok(held_in::<C>(row.state())),
-            None => Err(Damaged),
-        }
+        Ok(held_in::<C>(self.row(stop)?.state()))
     }
 }
 
@@ -89,9 +80,6 @@ impl<S: Store, N: NameSet, C: Totalling> Node<S, N, C> {
     pub fn total(&mut self, stop: u16) -> Result<u32, Damaged>
         ensures { Finds S.Store N.NameSet C.Computation self.old self.new (λ n. (n.power.on ≡ true) × (stop < stops)) result (λ n. C.totals (C.Computation.operations.load (n.row stop).state)) }
     {
-        match self.row(stop) {
-            Some(row) => Ok(total_in::<C>(row.state())),
-            None => Err(Damaged),
-        }
+        Ok(total_in::<C>(self.row(stop)?.state()))
     }
 }

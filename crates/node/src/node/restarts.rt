@@ -41,28 +41,20 @@ impl<S: Store, N: NameSet, C: Computation> Node<S, N, C> {
     {
         match self.store.restart(left, tear, junk) {
             Answer::Done => {
-                if self.remake() {
-                    Ok(Answer::Done)
-                } else {
-                    Err(Damaged)
-                }
+                self.remake()?;
+                Ok(Answer::Done)
             }
             other => Ok(other),
         }
     }
 
-    // Makes all that is kept beside the rows again, and says whether every row could be read.
-    fn remake(&mut self) -> bool
+    // Makes all that is kept beside the rows again.
+    fn remake(&mut self) -> Result<(), Damaged>
         ensures { Remakes S.Store N.NameSet C.Computation self.old self.new result }
     {
         self.empty();
-        match read_watermark(&mut self.store) {
-            Some(watermark) => {
-                self.watermark = watermark;
-                self.remake_stops()
-            }
-            None => false,
-        }
+        self.watermark = read_watermark(&mut self.store).ok_or(Damaged)?;
+        self.remake_stops()
     }
 
     // Nothing is kept beside the rows any more.
@@ -75,29 +67,23 @@ impl<S: Store, N: NameSet, C: Computation> Node<S, N, C> {
         self.queue.clear();
     }
 
-    fn remake_stops(&mut self) -> bool
+    fn remake_stops(&mut self) -> Result<(), Damaged>
         ensures { RemakesStops S.Store N.NameSet C.Computation self.old self.new result }
     {
         for stop in 0..32 {
-            if !self.remake_stop(stop) {
-                return false;
-            }
+            self.remake_stop(stop)?;
         }
-        true
+        Ok(())
     }
 
-    fn remake_stop(&mut self, stop: u16) -> bool
+    fn remake_stop(&mut self, stop: u16) -> Result<(), Damaged>
         ensures { RemakesStop S.Store N.NameSet C.Computation self.old self.new stop result }
     {
-        match read_row(&mut self.store, stop) {
-            Some(row) => {
-                let _ = add_all(&mut self.names, stop, row.names());
-                self.timers.set(stop, due_in::<C>(row.state()));
-                self.panel.set(stop, row.oldest());
-                requeue(&mut self.queue, stop, &row);
-                true
-            }
-            None => false,
-        }
+        let row = read_row(&mut self.store, stop).ok_or(Damaged)?;
+        let _ = add_all(&mut self.names, stop, row.names());
+        self.timers.set(stop, due_in::<C>(row.state()));
+        self.panel.set(stop, row.oldest());
+        requeue(&mut self.queue, stop, &row);
+        Ok(())
     }
 }

@@ -7,8 +7,8 @@ use Rattle.node.proofs.Showing.{told_by}
 use Rattle.node.proofs.Waking.{woken, woke_done, woken_not}
 use Rattle.node.proofs.node.Node.restart.Goals as goal
 
-pub returns-then-remake : goal.returns-then-remake
-returns-then-remake g c = λ n shows.
+pub returns-in_ok-remake-in-Done : goal.returns-in_ok-remake-in-Done
+returns-in_ok-remake-in-Done g c = λ n shows.
     let store = g.S.Store in
     let set = g.N.NameSet in
     let computation = g.C.Computation in
@@ -17,20 +17,20 @@ returns-then-remake g c = λ n shows.
     let did = c.in-Done.ensures.restarts shows.store_fit in
     let woke = woke_done did n shows.kept refl in
     let t = store.model c.restart.new.self in
-    let remade = c.if-remake.ensures did.fits (woken left tear t.power.owed n) woke.kept woke.lasts refl in
+    let remade = c.in_ok-remake-in-Done.ensures did.fits (woken left tear t.power.owed n) woke.kept woke.lasts refl in
     told_by (cond-true _ _ _ woke.fits)
     (record {
       answer = ap (λ (a : Answer). Ok a) (sym (cond-true _ _ _ woke.lasts));
       shows = subst (λ (o : ℕ). Shows store set computation c.remake.new.self (woken left tear o n)) (ap (λ (x : Stored). x.power.owed) (sym remade.means)) remade.shows;
     })
 
-pub returns-else-remake : goal.returns-else-remake
-returns-else-remake g c = λ n shows.
+pub returns-in_err-remake-in-Done : goal.returns-in_err-remake-in-Done
+returns-in_err-remake-in-Done g c = λ n shows.
     let store = g.S.Store in
     let did = c.in-Done.ensures.restarts shows.store_fit in
     let woke = woke_done did n shows.kept refl in
     let t = store.model c.restart.new.self in
-    let remade = c.if-remake.ensures did.fits (woken c.args.left c.args.tear t.power.owed n) woke.kept woke.lasts refl in
+    let remade = c.in_err-remake-in-Done.ensures did.fits (woken c.args.left c.args.tear t.power.owed n) woke.kept woke.lasts refl in
     absurd (both_ways false refl remade.all)
 
 pub returns-in_default : goal.returns-in_default
