@@ -52,7 +52,7 @@ module _ {S N C T : Type 0} (store : Stores S) (set : Sets N) (computation : Com
         row_is = row_is;
         seen_is = asked.answer n shows-1 on below ∙ ap (λ (x : Row). seen k x.names) (sym row_is);
         w_is = (shows-2.follows on).watermark;
-        commits = sym (asked.stays.commits shows-1.store_fit ∙ read.stays.commits shows.store_fit);
+        commits = sym (asked.stays.commits ∙ read.stays.commits);
       }
 
 module _ (c : Computation (List ℕ)) {w w' : ℕ} {row row' : Row} (same : row' ≡ row) (at : w ≡ w') where

@@ -34,14 +34,11 @@ module _ {S N C T : Type 0} (store : Stores S) (set : Sets N) (computation : Com
   pub record ShowsBelow (i : ℕ) (v : Node S N C) (n : LawNode) : Type 0 where
     pub kept : Kept (store.model v.store) n
     pub on : n.power.on ≡ true
-    pub store_fit : store.fit v.store
-    pub names_fit : set.fit v.names
     pub follows : FollowsBelow (on_bytes computation.operations) i (beside_of store set computation v) n
 
   -- the store stays, and nothing is kept beside its rows
   pub record Emptied (v v' : Node S N C) : Type 0 where
     pub store_is : v'.store ≡ v.store
-    pub names_fit : set.fit v'.names
     pub names : set.meaning v'.names ≡ nothing
     pub queue : lined v'.queue ≡ []
 
@@ -49,8 +46,7 @@ module _ {S N C T : Type 0} (store : Stores S) (set : Sets N) (computation : Com
   pub record Grows (v v' : Node S N C) (i j : ℕ) (r : Result Unit Damaged) : Type 0 where
     pub all : (n : LawNode) → ShowsBelow i v n → IsOk r
     pub shows : (n : LawNode) → ShowsBelow i v n → ShowsBelow j v' n
-    pub fits : store.fit v.store → store.fit v'.store
-    pub means : store.fit v.store → store.model v'.store ≡ store.model v.store
+    pub means : store.model v'.store ≡ store.model v.store
 
   abbrev pub RemakesStop : Node S N C → Node S N C → ℕ → Result Unit Damaged → Type 0
   RemakesStop v v' s r = s < stops → Grows v v' s (s + 1) r
@@ -65,7 +61,7 @@ module _ {S N C T : Type 0} (store : Stores S) (set : Sets N) (computation : Com
     pub means : store.model v'.store ≡ store.model v.store
 
   abbrev pub Remakes : Node S N C → Node S N C → Result Unit Damaged → Type 0
-  Remakes v v' r = store.fit v.store → (n : LawNode) → Kept (store.model v.store) n → n.power.on ≡ true → n.queue ≡ pending_stops n.row → Remade v v' n r
+  Remakes v v' r = (n : LawNode) → Kept (store.model v.store) n → n.power.on ≡ true → n.queue ≡ pending_stops n.row → Remade v v' n r
 
   -- for every node that is shown before a restart, it answers as the law's, and shows the law's node after it
   abbrev pub Wakes : Node S N C → Node S N C → ℕ → Result Answer Damaged → (Free → LawNode → Answer × LawNode) → Type 0

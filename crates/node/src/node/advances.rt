@@ -1,5 +1,5 @@
 // The watermark advances.
-ghost use Rattle.law.specs.Node.{advance as advance_of};
+ghost use Rattle.law.specs.Node.{advance};
 ghost use Rattle.node.specs.Promises.{Does};
 
 use super::{LAST_TIME, Node};
@@ -11,7 +11,7 @@ use stores::Store;
 
 impl<S: Store, N: NameSet, C: Computation> Node<S, N, C> {
     pub fn advance(&mut self, time: u32) -> Answer
-        ensures { Does S.Store N.NameSet C.Computation self.old self.new result (λ kit free n. advance_of kit free time n) }
+        ensures { Does S.Store N.NameSet C.Computation self.old self.new result (λ kit free n. advance kit free time n) }
     {
         if time > LAST_TIME {
             return Answer::OutOfRange;

@@ -7,7 +7,7 @@ use super::{Damaged, Node};
 use computations::{Computation, due_in};
 use ledger::{commit_row, read_row};
 use model::{Answer, Name};
-use names::NameSet;
+use names::{NameSet, Taken};
 use rows::StopRow;
 use stores::Store;
 use upkeep::{rename, requeue};
@@ -28,7 +28,7 @@ impl<S: Store, N: NameSet, C: Computation> Node<S, N, C> {
     pub(crate) fn has_seen(&mut self, stop: u16, name: Name) -> bool
         ensures { Asked S.Store N.NameSet C.Computation self.old self.new stop name result }
     {
-        self.names.has(stop, name)
+        self.names.has(Taken { stop, name })
     }
 
     // The only commit of a stop's row: once it is done, all that is kept beside the rows follows. Of the row's names,

@@ -2,7 +2,7 @@
 ghost use Rattle.std.specs.Prelude.{◌≡◌, ◌<◌, true};
 ghost use Rattle.model.specs.Limits.{stops};
 ghost use Rattle.model.specs.OnBytes.{on_bytes};
-ghost use Rattle.law.specs.Node.{fire as fire_of, fire_as};
+ghost use Rattle.law.specs.Node.{fire, fire_as};
 ghost use Rattle.model.specs.Row.{room_for_one};
 ghost use Rattle.steps.specs.Steps.{Reached};
 ghost use Rattle.agenda.specs.Meaning.{due_at, earliest};
@@ -18,7 +18,7 @@ use stores::Store;
 impl<S: Store, N: NameSet, C: Computation> Node<S, N, C> {
     // Fires the earliest due that the watermark has reached, ties to the lowest stop.
     pub fn fire(&mut self) -> Result<Answer, Damaged>
-        ensures { Answers S.Store N.NameSet C.Computation self.old self.new result (λ kit free n. fire_of kit free n) }
+        ensures { Answers S.Store N.NameSet C.Computation self.old self.new result (λ kit free n. fire kit free n) }
     {
         if !self.is_on() {
             return Ok(Answer::Off);
@@ -33,7 +33,10 @@ impl<S: Store, N: NameSet, C: Computation> Node<S, N, C> {
     fn due_stop(&self) -> Option<u16>
         ensures { result ≡ due_by self.now.watermark (earliest (due_at self.now.timers)) }
     {
-        let reached = self.timers.first().filter(|(_, due)| *due <= self.watermark);
+        let reached = self
+            .timers
+            .first()
+            .filter(|(_, due)| *due <= self.watermark);
         reached.map(|(stop, _)| stop)
     }
 

@@ -31,4 +31,4 @@ returns g c = λ n shows.
     let kit = kit_of store set computation in
     told_by (cond-true _ _ _ (lt-ltb s stops below) ∙ cond-true _ _ _ on ∙ cond-true _ _ _ oldest ∙ ap (λ (r : Row). commit_row kit free s r n) (sym New-is))
     (rewrapped (λ a. Ok a)
-    (c.commit.ensures n (read.stays.shows n shows) on below (ap (λ (r : Row). r.names) New-is ∙ sym (append-nil _)) tt free refl (sym (read.stays.commits shows.store_fit))))
+    (c.commit.ensures n (read.stays.shows n shows) on below (ap (λ (r : Row). r.names) New-is ∙ sym (append-nil _)) tt free refl (sym read.stays.commits)))

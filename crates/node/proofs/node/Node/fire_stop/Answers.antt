@@ -29,7 +29,7 @@ returns-in-Ok g c = λ n shows known.
     let kit = kit_of store set computation in
     told_by (cond-true _ _ _ (ap is_done fired.room) ∙ ap (λ (r : Row). commit_row kit free s r n) (sym fired.row))
     (rewrapped (λ a. Ok a)
-    (c.commit.ensures n Shows-then known.0 known.1 (fired_names ops n.w (n.row s) _ _ fired) tt free refl (sym (read.stays.commits shows.store_fit))))
+    (c.commit.ensures n Shows-then known.0 known.1 (fired_names ops n.w (n.row s) _ _ fired) tt free refl (sym read.stays.commits)))
 
 pub returns-in-Err : goal.returns-in-Err
 returns-in-Err g c = λ n shows known.

@@ -30,20 +30,17 @@ returns g c = λ below.
     record {
       all = λ n shows. refl;
       shows = λ n shows.
-          let row_is = read_is row (n.row i) (ap (option_map row_of) (sym got) ∙ (read shows.store_fit).row n shows.kept shows.on below) in
+          let row_is = read_is row (n.row i) (ap (option_map row_of) (sym got) ∙ read.row n shows.kept shows.on below) in
           let names-are = c.names.ensures ∙ ap (λ (r : Row). r.names) row_is in
-          let added = same_added names-are (c.add_all.ensures shows.names_fit) in
+          let added = same_added names-are c.add_all.ensures in
           record {
-            kept = subst (λ (x : Stored). Kept x n) (sym (read shows.store_fit).means) shows.kept;
+            kept = subst (λ (x : Stored). Kept x n) (sym read.means) shows.kept;
             on = shows.on;
-            store_fit = (read shows.store_fit).fits;
-            names_fit = added.fit;
             follows =
                 follows_more ops i (beside_of store set computation v) (beside_of store set computation v') n below (shows.kept.row i below).fits.few_names shows.follows _ _ _ added
                 c.set.ensures (c.due_in.ensures ∙ ap ops.due (c.state.ensures ∙ ap (λ (r : Row). r.state) row_is))
                 c.set-2.ensures (c.oldest.ensures ∙ ap (λ (r : Row). oldest r.pending) row_is)
                 (λ line low. c.requeue.ensures line low ∙ ap (λ (r : Row). requeued i r.pending (lined v.queue)) row_is) refl;
           };
-      fits = λ fit. (read fit).fits;
-      means = λ fit. (read fit).means;
+      means = read.means;
     }
