@@ -1,31 +1,41 @@
 // The account of a script, as lines of text: what each event answered, and where the requests for a stop are.
 #![tactic(auto)]
 
-ghost use Rattle.std.specs.Prelude.{◌≡◌, IfOk, string_bytes};
-ghost use Rattle.account.specs.Account.{event_line, events_from, plain_line, stop_line};
+ghost use Rattle.std.specs.Prelude.{◌≡◌, IfOk, Some, string_bytes};
+ghost use Rattle.account.specs.Account.{event_line, events_from, stop_line};
 
-use model::Outcome;
+use model::{Outcome, Production};
 use std::alloc::{AllocError, Global};
+use std::fmt;
 
-// The event's number and its answer; a show that is done goes on with stop, serial, time and amount.
-fn event_line(heap: Global, number: usize, outcome: Outcome) -> Result<String, AllocError>
-    ensures { IfOk result (λ s. string_bytes s ≡ event_line number outcome) }
-{
-    match outcome {
-        Outcome::Plain(answer) => plain_line(heap, number, u8::from(answer)),
-        Outcome::Shown { stop, production } => {
-            let serial = production.serial;
-            let time = production.time;
-            let amount = production.amount;
-            format!(in heap; "{number} 0 {stop} {serial} {time} {amount}\n")
-        }
-    }
+// An event by its number, and what it answered.
+#[derive(Clone, Copy)]
+struct Event {
+    number: usize,
+    outcome: Outcome,
 }
 
-fn plain_line(heap: Global, number: usize, answer: u8) -> Result<String, AllocError>
-    ensures { IfOk result (λ s. string_bytes s ≡ plain_line number answer) }
-{
-    format!(in heap; "{number} {answer}\n")
+// The number and the answer; a show that is done goes on with stop, serial, time and amount.
+impl fmt::Display for Event {
+    ghost output = { λ event. Some (event_line event.number event.outcome) };
+
+    fn fmt<W: fmt::Write>(&self, f: &mut fmt::Formatter<W>) -> fmt::Result {
+        let number = self.number;
+        match self.outcome {
+            Outcome::Plain(answer) => {
+                let answer = u8::from(answer);
+                writeln!(f, "{number} {answer}")
+            }
+            Outcome::Shown { stop, production } => {
+                let Production {
+                    serial,
+                    time,
+                    amount,
+                } = production;
+                writeln!(f, "{number} 0 {stop} {serial} {time} {amount}")
+            }
+        }
+    }
 }
 
 // A line for each event, numbered from 1.
@@ -34,8 +44,11 @@ pub fn event_lines(heap: Global, outcomes: &[Outcome]) -> Result<String, AllocEr
 {
     let mut text = String::new(heap);
     for (i, outcome) in outcomes.iter().enumerate() {
-        let line = event_line(heap, i + 1, *outcome)?;
-        text.push_str(line.as_str())?;
+        let event = Event {
+            number: i + 1,
+            outcome: *outcome,
+        };
+        write!(text, "{event}")?;
     }
     Ok(text)
 }

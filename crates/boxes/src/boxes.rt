@@ -7,7 +7,6 @@ use super::parts::{CollectorNames, CollectorStore, new_parts};
 use counter::Counter;
 use detector::Detector;
 use hashed_names::HashedNames;
-use model::Answer;
 use pair::{Pair, Stopped};
 use replay::replay;
 use shadow::Shadow;
@@ -21,15 +20,13 @@ pub fn account_of(heap: Global, script: &[u8]) -> Result<String, Stopped>
     ensures account { IfOk result (λ t. Accounts script.now (string_bytes t)) }
     ensures only_memory { IfErr result (λ e. e ≡ NoMemory) }
 {
-    let Ok(parts) = new_parts(heap) else {
-        return Err(Stopped::NoMemory);
-    };
-    let made: Result<Boxes, Answer> = Pair::new(
+    let parts = new_parts(heap)?;
+    let mut boxes: Boxes = Pair::new(
         parts.collector_store,
         parts.collector_names,
         parts.spotter_store,
         parts.spotter_names,
-    );
-    let Ok(mut boxes) = made else { unreachable!() };
+    )
+    .unwrap();
     replay(heap, &mut boxes, script)
 }

@@ -28,9 +28,9 @@ pub fn new_parts(heap: Global) -> Result<Parts, AllocError>
     ensures collector { IfOk result (λ p. JournalReady p.collector_store) }
     ensures spotter { IfOk result (λ p. ShadowReady p.spotter_store) }
 {
-    let collector_store = collector_store(heap)?;
+    let collector_store = Cached::new(Journal::format(Card::blank(heap, 0, 35)?).unwrap());
     let collector_names = Bloom::new(heap, SortedNames::new(heap)?)?;
-    let spotter_store = spotter_store(heap)?;
+    let spotter_store = Shadow::format(Card::blank(heap, 1, 67)?).unwrap();
     let spotter_names = HashedNames::new(heap)?;
     Ok(Parts {
         collector_store,
@@ -38,22 +38,4 @@ pub fn new_parts(heap: Global) -> Result<Parts, AllocError>
         spotter_store,
         spotter_names,
     })
-}
-
-fn collector_store(heap: Global) -> Result<CollectorStore, AllocError>
-    ensures { IfOk result (λ s. JournalReady s) }
-{
-    match Journal::format(Card::blank(heap, 0, 35)?) {
-        Ok(journal) => Ok(Cached::new(journal)),
-        Err(_) => unreachable!(),
-    }
-}
-
-fn spotter_store(heap: Global) -> Result<Shadow, AllocError>
-    ensures { IfOk result (λ s. ShadowReady s) }
-{
-    match Shadow::format(Card::blank(heap, 1, 67)?) {
-        Ok(shadow) => Ok(shadow),
-        Err(_) => unreachable!(),
-    }
 }

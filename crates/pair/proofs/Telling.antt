@@ -1,5 +1,5 @@
 -- What a pair shows after one of its nodes has answered. Assumes nothing.
-use Rattle.std.proofs.Common.{◌≡◌, ℕ, cond, eqb, List, ◌++◌, Some, Ok, Err, Option, Result, sym, refl, ap, ◌∙◌, subst, arith}
+use Rattle.std.proofs.Common.{◌≡◌, ℕ, cond, eqb, List, ◌++◌, IsOkAnd, MatchResult, Some, Ok, Err, Option, Result, sym, refl, ap, ◌∙◌, subst, arith}
 use Rattle.std.specs.List.{slice_get}
 use Rattle.model.specs.declared.answer.Answer.{Answer}
 use Rattle.model.specs.declared.answer.Outcome.{Outcome}
@@ -20,7 +20,6 @@ use Rattle.node.specs.Promises.{Told as NodeTold}
 use Rattle.node.specs.Shows.{kit_of, free_of as node_free, Shows as NodeShows}
 use Rattle.node.specs.declared.node.Damaged.{Damaged}
 use Rattle.node.specs.declared.node.Node.{Node}
-use Rattle.pair.specs.Plain.{plainly}
 use Rattle.pair.specs.Promises.{Told, receiver, free_of}
 use Rattle.pair.specs.Shows.{kits_of, collector_free, spotter_free, Shows}
 use Rattle.pair.specs.declared.pair.Pair.{Pair}
@@ -31,6 +30,17 @@ ok_is m n e = cc
 
 pub err_none : {X : Type 0} (d : Damaged) (x : X) → ◌≡◌ {A = Result X Damaged} (Err d) (Ok x) → ⊥
 err_none d x e = let z : ◌≡◌ {A = ℕ} 0 1 = cc in omega arith
+
+-- what `map(Outcome::Plain)` makes of an answer
+abbrev pub Mapped : Result Answer Damaged → Result Outcome Damaged → Type 0
+Mapped a r = MatchResult a (λ x. IsOkAnd r (λ o. o ≡ Plain x)) (λ e. r ≡ Err e)
+
+mapped_ok : {a : Result Answer Damaged} {r : Result Outcome Damaged} {x : Answer} → Mapped a r → a ≡ Ok x → r ≡ Ok (Plain x)
+mapped_ok {a} {r} {x} m e = is_ok r (subst (λ b. Mapped b r) e m)
+  where
+    is_ok : (q : Result Outcome Damaged) → IsOkAnd q (λ o. o ≡ Plain x) → q ≡ Ok (Plain x)
+    is_ok (Ok o) f = ap (λ p. Ok p) f
+    is_ok (Err d) f = elim f [ ]
 
 -- a call that comes to the same
 pub told_as : {Shown : LawPair → Type 0} {r : Result Outcome Damaged} {x y : Outcome × LawPair} → x ≡ y → Told Shown r y → Told Shown r x
@@ -54,26 +64,26 @@ module _ {S N C X T O D Y : Type 0} (store : Stores S) (set : Sets N) (computati
   -- the collector has answered, and the link may have changed
   pub told_collector
       : (n : Node S N C) (m : Node T O D) (l : Link) (p : LawPair) {x : Answer × LawNode} {a : Result Answer Damaged} {r : Result Outcome Damaged}
-      → r ≡ plainly a
+      → Mapped a r
       → NodeTold (NodeShows store set computation n) (λ b. Ok b) a x
       → NodeShows store' set' computation' m p.spotter
       → carried l ≡ p.link
       → Told (Shows store set computation store' set' computation' (record { collector = n; spotter = m; link = l })) r (at_collector x p)
   told_collector n m l p e t spotter link = record {
-    outcome = e ∙ ap plainly t.answer;
+    outcome = mapped_ok e t.answer;
     shows = record { collector = t.shows; spotter = spotter; link = link };
   }
 
   -- the spotter has answered
   pub told_spotter
       : (n : Node S N C) (m : Node T O D) (l : Link) (p : LawPair) {x : Answer × LawNode} {a : Result Answer Damaged} {r : Result Outcome Damaged}
-      → r ≡ plainly a
+      → Mapped a r
       → NodeTold (NodeShows store' set' computation' m) (λ b. Ok b) a x
       → NodeShows store set computation n p.collector
       → carried l ≡ p.link
       → Told (Shows store set computation store' set' computation' (record { collector = n; spotter = m; link = l })) r (at_spotter x p)
   told_spotter n m l p e t collector link = record {
-    outcome = e ∙ ap plainly t.answer;
+    outcome = mapped_ok e t.answer;
     shows = record { collector = collector; spotter = t.shows; link = link };
   }
 
@@ -93,7 +103,7 @@ module _ {S N C X T O D Y : Type 0} (store : Stores S) (set : Sets N) (computati
       }
 
   -- a due has fired at one of the nodes
-  module _ (v : Pair S N C T O D) (p : LawPair) (k : ℕ) {a : Result Answer Damaged} {r : Result Outcome Damaged} (shows : Shows store set computation store' set' computation' v p) (plain : r ≡ plainly a) where
+  module _ (v : Pair S N C T O D) (p : LawPair) (k : ℕ) {a : Result Answer Damaged} {r : Result Outcome Damaged} (shows : Shows store set computation store' set' computation' v p) (mapped : Mapped a r) where
     pub told_fire_0
         : (n : Node S N C)
         → k ≡ 0
@@ -103,7 +113,7 @@ module _ {S N C X T O D Y : Type 0} (store : Stores S) (set : Sets N) (computati
     told_fire_0 n e t =
         let v' : Pair S N C T O D = record { collector = n; spotter = v.spotter; link = v.link } in
         subst (λ (j : ℕ). Told (Shows store set computation store' set' computation' v') r (happens (kits_of store set computation store' set' computation') (free_of store set computation store' set' computation' v v' (Fire j)) (Fire j) p))
-        (sym e) (told_collector n v.spotter v.link p plain t shows.spotter shows.link)
+        (sym e) (told_collector n v.spotter v.link p mapped t shows.spotter shows.link)
 
     pub told_fire_1
         : (m : Node T O D)
@@ -114,7 +124,7 @@ module _ {S N C X T O D Y : Type 0} (store : Stores S) (set : Sets N) (computati
     told_fire_1 m e t =
         let v' : Pair S N C T O D = record { collector = v.collector; spotter = m; link = v.link } in
         subst (λ (j : ℕ). Told (Shows store set computation store' set' computation' v') r (happens (kits_of store set computation store' set' computation') (free_of store set computation store' set' computation' v v' (Fire j)) (Fire j) p))
-        (sym e) (told_spotter v.collector m v.link p plain t shows.collector shows.link)
+        (sym e) (told_spotter v.collector m v.link p mapped t shows.collector shows.link)
 
   -- what is left free in a delivery is the receiver's
   module _ (v v' : Pair S N C T O D) (place : ℕ) where

@@ -1,4 +1,4 @@
-pub mod Plain
+pub mod Words
 pub mod Shows
 pub mod Promises
 pub mod Runs

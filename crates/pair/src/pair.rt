@@ -1,6 +1,7 @@
 // A pair: the collector, the spotter, and the messages between them.
-ghost use Rattle.std.specs.Prelude.{◌≡◌};
-ghost use Rattle.pair.specs.Plain.{plainly};
+ghost use Rattle.std.specs.Prelude.{◌≡◌, Some};
+ghost use Rattle.pair.specs.Words.{reason};
+ghost use Rattle.pair.specs.declared.pair.Stopped.TheVariants.{NoMemory, Damaged as DamagedRow};
 
 mod both;
 mod calls;
@@ -14,10 +15,13 @@ mod tallies;
 mod watches;
 
 use link::Link;
-use model::{Answer, Outcome};
 use node::{Damaged, Node};
+use std::alloc::AllocError;
+use std::error::Error;
+use std::fmt;
 
-// The collector has a store S, a name set N and a computation C; the spotter has T, O and D.
+// The collector has a store S, a name set N and a computation C; the spotter has T, O and D. Clauses name the six one by
+// one: the ghost record of a trait that bundles a node's three would not carry their own.
 #[derive(Drop)]
 pub struct Pair<S, N, C, T, O, D> {
     collector: Node<S, N, C>,
@@ -42,12 +46,31 @@ pub enum Stopped {
     Damaged,
 }
 
-// An answer that carries nothing more.
-fn plain(answer: Result<Answer, Damaged>) -> Result<Outcome, Damaged>
-    ensures { result ≡ plainly answer }
-{
-    match answer {
-        Ok(answer) => Ok(Outcome::Plain(answer)),
-        Err(damaged) => Err(damaged),
+impl From<AllocError> for Stopped {
+    ghost from_gives = { λ _ stopped. stopped ≡ NoMemory };
+
+    fn from(_error: AllocError) -> Self {
+        Self::NoMemory
     }
 }
+
+impl From<Damaged> for Stopped {
+    ghost from_gives = { λ _ stopped. stopped ≡ DamagedRow };
+
+    fn from(_damaged: Damaged) -> Self {
+        Self::Damaged
+    }
+}
+
+impl fmt::Display for Stopped {
+    ghost output = { λ stopped. Some (reason stopped) };
+
+    fn fmt<W: fmt::Write>(&self, f: &mut fmt::Formatter<W>) -> fmt::Result {
+        match self {
+            Stopped::NoMemory => write!(f, "there is not enough memory"),
+            Stopped::Damaged => write!(f, "a row is damaged"),
+        }
+    }
+}
+
+impl Error for Stopped {}

@@ -25,22 +25,12 @@ pub fn replay<S: Store, N: NameSet, C: Conserving, T: Store, O: NameSet, D: Tota
     ensures account { IfOk result (λ t. Replays S.Store N.NameSet C.Computation T.Store O.NameSet D.Computation (λ bs. C.holds (C.Computation.operations.load bs)) (λ bs. D.totals (D.Computation.operations.load bs)) pair.old pair.new script.now (string_bytes t)) }
     ensures undamaged { IfErr result (λ e. e ≡ DamagedRow → (p : LawPair) → Shows S.Store N.NameSet C.Computation T.Store O.NameSet D.Computation pair.old p → ⊥) }
 {
-    let Ok(script) = whole_script(heap, script) else {
-        return Err(Stopped::NoMemory);
-    };
-    let outcomes = match pair.run(heap, &script.calls) {
-        Ok(outcomes) => outcomes,
-        Err(stopped) => return Err(stopped),
-    };
-    let stops = match stop_lines(heap, pair) {
-        Ok(stops) => stops,
-        Err(stopped) => return Err(stopped),
-    };
+    let script = whole_script(heap, script)?;
+    let outcomes = pair.run(heap, &script.calls)?;
+    let stops = stop_lines(heap, pair)?;
     let events = outcomes.len() - 2;
-    match account_text(heap, &outcomes[0..events], script.fault, stops.as_str()) {
-        Ok(text) => Ok(text),
-        Err(_) => Err(Stopped::NoMemory),
-    }
+    let text = account_text(heap, &outcomes[0..events], script.fault, stops.as_str())?;
+    Ok(text)
 }
 
 // The calls of a script, and behind them the restarts of both nodes.

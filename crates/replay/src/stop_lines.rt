@@ -18,14 +18,8 @@ pub fn stop_lines<S: Store, N: NameSet, C: Conserving, T: Store, O: NameSet, D: 
 {
     let mut text = String::new(heap);
     for stop in 0..32 {
-        match one_stop(heap, pair, stop) {
-            Ok(line) => {
-                if text.push_str(line.as_str()).is_err() {
-                    return Err(Stopped::NoMemory);
-                }
-            }
-            Err(stopped) => return Err(stopped),
-        }
+        let line = one_stop(heap, pair, stop)?;
+        text.push_str(line.as_str())?;
     }
     Ok(text)
 }
@@ -37,12 +31,9 @@ fn one_stop<S: Store, N: NameSet, C: Conserving, T: Store, O: NameSet, D: Totall
 ) -> Result<String, Stopped>
     ensures { Says S.Store N.NameSet C.Computation T.Store O.NameSet D.Computation pair.old pair.new (λ p. tally_line stop (told_of (λ bs. C.holds (C.Computation.operations.load bs)) (λ bs. D.totals (D.Computation.operations.load bs)) p stop)) result }
 {
-    match pair.tally(stop) {
-        Ok(Some(tally)) => match stop_line(heap, stop, tally.held, tally.pending, tally.landed) {
-            Ok(line) => Ok(line),
-            Err(_) => Err(Stopped::NoMemory),
-        },
-        Ok(None) => Ok(String::new(heap)),
-        Err(_) => Err(Stopped::Damaged),
-    }
+    let line = match pair.tally(stop)? {
+        Some(tally) => stop_line(heap, stop, tally.held, tally.pending, tally.landed)?,
+        None => String::new(heap),
+    };
+    Ok(line)
 }

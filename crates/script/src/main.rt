@@ -2,7 +2,6 @@
 // requests for each stop are after both boxes were restarted.
 #![tactic(auto)]
 
-use anyhow::anyhow;
 use boxes::account_of;
 use std::io::Read;
 
@@ -16,9 +15,6 @@ fn main(rt: HostRuntime) -> anyhow::Result<()> {
         eprintln!(rt; "script: only the first {MOST} bytes are read")?;
         script.truncate(MOST);
     }
-    match account_of(rt.alloc(), script.as_slice()) {
-        Ok(account) => rt.print(account)?,
-        Err(_) => return Err(anyhow!("there is not enough memory")),
-    }
+    rt.print(account_of(rt.alloc(), script.as_slice())?)?;
     Ok(())
 }

@@ -1,4 +1,4 @@
-use Rattle.std.proofs.Common.{◌≡◌, ℕ, ◌+◌, ◌<◌, ◌≤◌, List, ◌++◌, length, get_or, drop, string_bytes, sym, ap, ◌∙◌, append_assoc, append-nil, arith}
+use Rattle.std.proofs.Common.{◌≡◌, ℕ, ◌+◌, ◌<◌, ◌≤◌, List, ◌++◌, length, get_or, drop, string_bytes, sym, refl, ap, ◌∙◌, append_assoc, append-nil, arith}
 use Rattle.std.proofs.lemmas.List.{drop_more, drop_all}
 use Rattle.model.specs.declared.answer.Answer.TheVariants.{Done}
 use Rattle.model.specs.declared.answer.Outcome.{Outcome}
@@ -21,11 +21,9 @@ loop-i-preserved c =
     let os = c.args.outcomes.now in
     let i = c.loop-i.i in
     let text = string_bytes c.loop-i.text in
-    let line = string_bytes c.in_ok-line.line in
     let below : i < length os = omega arith in
-    let pushed = c.in_ok-push_str.ensures.bytes ∙ ap (λ (l : List ℕ). text ++ l) c.as_str.ensures.value in
-    ap (λ (t : List ℕ). t ++ events_from (i + 1 + 1) (drop (i + 1) os)) pushed
-    ∙ sym (more os i (Plain Done) text line below c.in_ok-line.ensures)
+    ap (λ (t : List ℕ). t ++ events_from (i + 1 + 1) (drop (i + 1) os)) c.in_ok-write.ensures.bytes
+    ∙ sym (more os i (Plain Done) text _ below refl)
     ∙ c.loop-i.invariant
 
 pub returns : goal.returns

@@ -2,7 +2,7 @@
 ghost use Rattle.model.specs.declared.call.Call.TheVariants.{Fire, Restart};
 ghost use Rattle.pair.specs.Promises.{Steps, Wakes};
 
-use super::{Pair, plain};
+use super::Pair;
 use computations::Computation;
 use model::{Answer, Junk, Outcome};
 use names::NameSet;
@@ -22,8 +22,8 @@ impl<S: Store, N: NameSet, C: Computation, T: Store, O: NameSet, D: Computation>
         ensures { Steps S.Store N.NameSet C.Computation T.Store O.NameSet D.Computation self.old self.new (Fire node) result }
     {
         match node {
-            0 => plain(self.collector.fire()),
-            1 => plain(self.spotter.fire()),
+            0 => self.collector.fire().map(Outcome::Plain),
+            1 => self.spotter.fire().map(Outcome::Plain),
             _ => Ok(Outcome::Plain(Answer::OutOfRange)),
         }
     }
@@ -48,8 +48,8 @@ impl<S: Store, N: NameSet, C: Computation, T: Store, O: NameSet, D: Computation>
         ensures { Wakes S.Store N.NameSet C.Computation T.Store O.NameSet D.Computation self.old self.new node left tear junk.now result }
     {
         match node {
-            0 => plain(self.collector.restart(left, tear, junk)),
-            1 => plain(self.spotter.restart(left, tear, junk)),
+            0 => self.collector.restart(left, tear, junk).map(Outcome::Plain),
+            1 => self.spotter.restart(left, tear, junk).map(Outcome::Plain),
             _ => Ok(Outcome::Plain(Answer::OutOfRange)),
         }
     }

@@ -3,7 +3,7 @@ ghost use Rattle.std.specs.Prelude.{Ok};
 ghost use Rattle.model.specs.declared.call.Call.TheVariants.{HandIn, Advance};
 ghost use Rattle.pair.specs.Promises.{Steps};
 
-use super::{Pair, plain};
+use super::Pair;
 use computations::Computation;
 use model::{Outcome, Record};
 use names::NameSet;
@@ -22,7 +22,7 @@ impl<S: Store, N: NameSet, C: Computation, T: Store, O: NameSet, D: Computation>
     pub fn hand_in(&mut self, given: &Record) -> Result<Outcome, Damaged>
         ensures { Steps S.Store N.NameSet C.Computation T.Store O.NameSet D.Computation self.old self.new (HandIn given.now) result }
     {
-        plain(self.collector.hand_in(given))
+        self.collector.hand_in(given).map(Outcome::Plain)
     }
 
     // The collector's watermark advances.

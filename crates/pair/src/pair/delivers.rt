@@ -8,7 +8,7 @@ ghost use Rattle.law.specs.Pair.{as_record};
 ghost use Rattle.link.specs.Carried.{carried};
 ghost use Rattle.pair.specs.Promises.{Steps};
 
-use super::{Pair, plain};
+use super::Pair;
 use computations::Computation;
 use model::{Answer, Message, Name, Outcome, Production, Record};
 use names::NameSet;
@@ -41,9 +41,7 @@ impl<S: Store, N: NameSet, C: Computation, T: Store, O: NameSet, D: Computation>
         if !self.spotter.is_on() {
             return Ok(Outcome::Plain(Answer::Off));
         }
-        let Ok(answer) = self.spotter.hand_in(&as_record(stop, production)) else {
-            return Err(Damaged);
-        };
+        let answer = self.spotter.hand_in(&as_record(stop, production))?;
         self.link.take_out(place);
         if is_known(answer) {
             let serial = production.serial;
@@ -60,7 +58,7 @@ impl<S: Store, N: NameSet, C: Computation, T: Store, O: NameSet, D: Computation>
             return Ok(Outcome::Plain(Answer::Off));
         }
         self.link.take_out(place);
-        plain(self.collector.clear(stop, serial))
+        self.collector.clear(stop, serial).map(Outcome::Plain)
     }
 }
 
@@ -81,8 +79,5 @@ fn as_record(stop: u16, production: Production) -> Record
 fn is_known(answer: Answer) -> bool
     ensures { result ≡ (is_done answer || is_seen answer) }
 {
-    match answer {
-        Answer::Done | Answer::Seen => true,
-        _ => false,
-    }
+    matches!(answer, Answer::Done | Answer::Seen)
 }

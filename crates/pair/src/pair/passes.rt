@@ -24,9 +24,7 @@ impl<S: Store, N: NameSet, C: Computation, T: Store, O: NameSet, D: Computation>
         if !self.collector.is_on() || !self.spotter.is_on() {
             return Ok(Outcome::Plain(Answer::Off));
         }
-        match self.collector.low_watermark() {
-            Ok(low) => Ok(Outcome::Plain(self.spotter.advance(low))),
-            Err(damaged) => Err(damaged),
-        }
+        let low = self.collector.low_watermark()?;
+        Ok(Outcome::Plain(self.spotter.advance(low)))
     }
 }

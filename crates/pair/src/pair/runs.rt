@@ -24,14 +24,10 @@ impl<S: Store, N: NameSet, C: Computation, T: Store, O: NameSet, D: Computation>
         ensures keeps_the_law { IfOk result (λ o. Carries S.Store N.NameSet C.Computation T.Store O.NameSet D.Computation self.old self.new calls.now o.items) }
         ensures stops { IfErr result (λ e. Stops S.Store N.NameSet C.Computation T.Store O.NameSet D.Computation self.old self.new e) }
     {
-        let Ok(mut outcomes) = Vec::with_capacity(heap, calls.len()) else {
-            return Err(Stopped::NoMemory);
-        };
+        let mut outcomes = Vec::with_capacity(heap, calls.len())?;
         for call in calls {
-            match self.call(call) {
-                Ok(outcome) => outcomes.push_reserved(outcome),
-                Err(_) => return Err(Stopped::Damaged),
-            }
+            let outcome = self.call(call)?;
+            outcomes.push_reserved(outcome);
         }
         Ok(outcomes)
     }

@@ -23,15 +23,9 @@ impl<S: Store, N: NameSet, C: Conserving, T: Store, O: NameSet, D: Totalling> Pa
         if stop >= 32 || !self.collector.is_on() || !self.spotter.is_on() {
             return Ok(None);
         }
-        let Ok(held) = self.collector.held(stop) else {
-            return Err(Damaged);
-        };
-        let Ok(pending) = self.collector.pending_amount(stop) else {
-            return Err(Damaged);
-        };
-        let Ok(landed) = self.spotter.total(stop) else {
-            return Err(Damaged);
-        };
+        let held = self.collector.held(stop)?;
+        let pending = self.collector.pending_amount(stop)?;
+        let landed = self.spotter.total(stop)?;
         Ok(Some(Tally {
             held,
             pending,

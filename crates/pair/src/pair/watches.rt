@@ -3,7 +3,7 @@ ghost use Rattle.std.specs.Prelude.{Ok};
 ghost use Rattle.model.specs.declared.call.Call.TheVariants.{Show, MarkDone};
 ghost use Rattle.pair.specs.Promises.{Steps};
 
-use super::{Pair, plain};
+use super::Pair;
 use computations::Computation;
 use model::{Answer, Outcome};
 use names::NameSet;
@@ -35,6 +35,6 @@ impl<S: Store, N: NameSet, C: Computation, T: Store, O: NameSet, D: Computation>
     pub fn mark_done(&mut self, stop: u16, serial: u32) -> Result<Outcome, Damaged>
         ensures { Steps S.Store N.NameSet C.Computation T.Store O.NameSet D.Computation self.old self.new (MarkDone stop serial) result }
     {
-        plain(self.spotter.clear(stop, serial))
+        self.spotter.clear(stop, serial).map(Outcome::Plain)
     }
 }

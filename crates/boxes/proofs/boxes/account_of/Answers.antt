@@ -1,15 +1,17 @@
 use Rattle.std.proofs.Common.{[], arith}
+use Rattle.std.proofs.lemmas.Result.{MatchResult-at_ok}
 use Rattle.runs.proofs.Counting.{counter_law}
 use Rattle.boxes.proofs.Accounting.{made_then, only_memory, journal_blank, shadow_blank}
 use Rattle.boxes.proofs.boxes.account_of.Goals as goal
 
 pub returns : goal.returns
 returns c =
-    let parts = c.in-Ok.parts in
-    let journal = c.in-Ok.ensures.collector in
-    let shadow = c.in-Ok.ensures.spotter in
+    let parts = c.in_ok-parts.parts in
+    let journal = c.in_ok-parts.ensures.collector in
+    let shadow = c.in_ok-parts.ensures.spotter in
+    let made = MatchResult-at_ok _ _ _ c.unwrap-boxes.ensures c.new.ensures in
     let new =
-    c.in-Ok-made.ensures.blank (journal.formatted.sound, journal.agrees) shadow.formatted.sound
+    made.blank (journal.formatted.sound, journal.agrees) shadow.formatted.sound
     (journal_blank parts.collector_store journal) (shadow_blank parts.spotter_store shadow) in
     record {
       account = made_then c.replay.result c.replay.ensures.account (λ t replays.

@@ -24,10 +24,10 @@ returns-then-is_known g c = λ stood p shows.
     let on = sym (is_on g.T.Store g.O.NameSet g.D.Computation g.met.T.Store.turn_within v.spotter p.spotter shows.spotter) ∙ sym c.if-not-is_on.ensures in
     let here = ap (λ (ms : List Message). slice_get ms place) (sym shows.link) ∙ stood in
     let known = sym c.is_known.ensures ∙ c.if-is_known.true in
-    let link = then_added v.link c.take_out.new.self place (Produced s x) stood c.take_out.ensures.there c.take_out.ensures.messages c.add.new.self (Acknowledged s x.serial) c.add.ensures.room c.add.ensures.messages ∙ ap (λ (ms : List Message). remove ms place ++ (Acknowledged s x.serial ∷ [])) shows.link ∙ reply_yes s x.serial c.in-Ok.answer (remove p.link place) known in
+    let link = then_added v.link c.take_out.new.self place (Produced s x) stood c.take_out.ensures.there c.take_out.ensures.messages c.add.new.self (Acknowledged s x.serial) c.add.ensures.room c.add.ensures.messages ∙ ap (λ (ms : List Message). remove ms place ++ (Acknowledged s x.serial ∷ [])) shows.link ∙ reply_yes s x.serial c.in_ok-answer.answer (remove p.link place) known in
     told_as (ap (λ (f : Free). deliver kits f place p) (free_production g.S.Store g.N.NameSet g.C.Computation g.T.Store g.O.NameSet g.D.Computation v v' place s x stood) ∙ deliver_production kits free place p s x here on)
     (told_arrival g.S.Store g.N.NameSet g.C.Computation g.T.Store g.O.NameSet g.D.Computation v.collector c.hand_in.new.self l p s x.serial (remove p.link place)
-    (told_given kits.spotter free p.spotter c.as_record.ensures (c.in-Ok.ensures p.spotter shows.spotter)) shows.collector link)
+    (told_given kits.spotter free p.spotter c.as_record.ensures (c.in_ok-answer.ensures p.spotter shows.spotter)) shows.collector link)
 
 pub returns-else-is_known : goal.returns-else-is_known
 returns-else-is_known g c = λ stood p shows.
@@ -42,7 +42,7 @@ returns-else-is_known g c = λ stood p shows.
     let on = sym (is_on g.T.Store g.O.NameSet g.D.Computation g.met.T.Store.turn_within v.spotter p.spotter shows.spotter) ∙ sym c.if-not-is_on.ensures in
     let here = ap (λ (ms : List Message). slice_get ms place) (sym shows.link) ∙ stood in
     let known = sym c.is_known.ensures ∙ c.if-is_known.false in
-    let link = taken_out v.link c.take_out.new.self place (Produced s x) stood c.take_out.ensures.there c.take_out.ensures.messages ∙ ap (λ (ms : List Message). remove ms place) shows.link ∙ reply_no s x.serial c.in-Ok.answer (remove p.link place) known in
+    let link = taken_out v.link c.take_out.new.self place (Produced s x) stood c.take_out.ensures.there c.take_out.ensures.messages ∙ ap (λ (ms : List Message). remove ms place) shows.link ∙ reply_no s x.serial c.in_ok-answer.answer (remove p.link place) known in
     told_as (ap (λ (f : Free). deliver kits f place p) (free_production g.S.Store g.N.NameSet g.C.Computation g.T.Store g.O.NameSet g.D.Computation v v' place s x stood) ∙ deliver_production kits free place p s x here on)
     (told_arrival g.S.Store g.N.NameSet g.C.Computation g.T.Store g.O.NameSet g.D.Computation v.collector c.hand_in.new.self l p s x.serial (remove p.link place)
-    (told_given kits.spotter free p.spotter c.as_record.ensures (c.in-Ok.ensures p.spotter shows.spotter)) shows.collector link)
+    (told_given kits.spotter free p.spotter c.as_record.ensures (c.in_ok-answer.ensures p.spotter shows.spotter)) shows.collector link)

@@ -1,5 +1,6 @@
 use Rattle.std.proofs.Common.{◌<◌, ◌≤◌, List, [], ◌∷◌, ◌++◌, length, get_or, take, vec_items, sym, refl, subst, arith}
 use Rattle.std.proofs.lemmas.List.{take_more, take_all}
+use Rattle.std.proofs.lemmas.Result.{err_from_is_err_and}
 use Rattle.model.specs.declared.answer.Outcome.{Outcome}
 use Rattle.model.specs.declared.call.Call.{Call}
 use Rattle.pair.specs.Runs.{Ran}
@@ -7,20 +8,18 @@ use Rattle.pair.proofs.Running.{no_call, kit_keeps, ran_more, ran_carries, never
 use Rattle.pair.proofs.pair.Pair.run.Goals as goal
 
 pub loop-call-init : goal.loop-call-init
-loop-call-init g c = let made = c.in-Ok.ensures in (made.len, made.capacity, (made.items, refl))
+loop-call-init g c = let made = c.in_ok-outcomes.ensures in (made.len, made.capacity, (made.items, refl))
 
 pub push_reserved-requires : goal.push_reserved-requires
 push_reserved-requires g c = omega arith
 
-pub returns-in-Err : goal.returns-in-Err
-returns-in-Err g c =
+pub returns-in_err-outcome-clause-stops : goal.returns-in_err-outcome-clause-stops
+returns-in_err-outcome-clause-stops g c =
     let i = c.loop-call.call-index in
     let calls = c.args.calls.now in
-    record {
-      one_after_another = tt;
-      keeps_the_law = tt;
-      stops = never_damaged g.S.Store g.N.NameSet g.C.Computation g.T.Store g.O.NameSet g.D.Computation c.args.self.now c.loop-call.self c.call.new.self (take i calls) (vec_items c.loop-call.outcomes) (get_or calls i no_call) c.in-Err.field-0 c.loop-call.invariant.2 c.in-Err.ensures;
-    }
+    let stopped = err_from_is_err_and c.from_residual-in_err-outcome.result c.from_residual-in_err-outcome.ensures.1 in
+    rw (stopped.1, stopped.2)
+    (never_damaged g.S.Store g.N.NameSet g.C.Computation g.T.Store g.O.NameSet g.D.Computation c.args.self.now c.loop-call.self c.call.new.self (take i calls) (vec_items c.loop-call.outcomes) (get_or calls i no_call) _ c.loop-call.invariant.2 c.in_err-outcome.ensures)
 
 pub loop-call-preserved : goal.loop-call-preserved
 loop-call-preserved g c =
@@ -29,7 +28,7 @@ loop-call-preserved g c =
     let pushed = c.push_reserved.ensures in
     let inv = c.loop-call.invariant in
     let below : i < length calls = omega arith in
-    let more = ran_more g.S.Store g.N.NameSet g.C.Computation g.T.Store g.O.NameSet g.D.Computation c.args.self.now c.loop-call.self c.call.new.self (take i calls) (vec_items c.loop-call.outcomes) (get_or calls i no_call) c.in-Ok-call.outcome inv.2 c.in-Ok-call.ensures in (
+    let more = ran_more g.S.Store g.N.NameSet g.C.Computation g.T.Store g.O.NameSet g.D.Computation c.args.self.now c.loop-call.self c.call.new.self (take i calls) (vec_items c.loop-call.outcomes) (get_or calls i no_call) c.in_ok-outcome.outcome inv.2 c.in_ok-outcome.ensures in (
       omega (arith, pushed.len, inv.0),
       omega (arith, pushed.capacity, inv.1),
       subst (λ (cs : List Call). Ran g.S.Store g.N.NameSet g.C.Computation g.T.Store g.O.NameSet g.D.Computation c.args.self.now cs (vec_items c.push_reserved.new.self) c.call.new.self) (sym (take_more calls i no_call below))

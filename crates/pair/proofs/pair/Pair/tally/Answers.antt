@@ -10,9 +10,9 @@ returns g c =
     let v = c.args.self.now in
     let s = c.args.stop in
     let below : s < stops = omega arith in
-    let held = c.in-Ok.ensures in
-    let pending = c.in-Ok-pending_amount.ensures in
-    let landed = c.in-Ok-total.ensures in
+    let held = c.in_ok-held.ensures in
+    let pending = c.in_ok-pending.ensures in
+    let landed = c.in_ok-landed.ensures in
     record {
       answer = λ p shows.
           let con = sym (is_on g.S.Store g.N.NameSet g.C.Computation g.met.S.Store.turn_within v.collector p.collector shows.collector) ∙ sym c.if-not-is_on.ensures in
