@@ -1,7 +1,6 @@
 use Rattle.std.proofs.Common.{sym, ◌∙◌}
 use Rattle.std.specs.List.{ContainsAt as Has}
 use Rattle.agenda.specs.Orders.{slot_total}
-use Rattle.agenda.proofs.Holding.{single_some}
 use Rattle.agenda.proofs.Choosing.{first_some, first_none}
 use Rattle.agenda.proofs.slots.first_in.Goals as goal
 
