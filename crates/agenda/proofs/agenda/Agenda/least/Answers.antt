@@ -1,4 +1,4 @@
-use Rattle.std.proofs.Common.{refl}
+use Rattle.std.proofs.Common.{◌∙◌}
 use Rattle.std.specs.Ordering.{is_lt}
 use Rattle.agenda.specs.Orders.{slot_total}
 use Rattle.agenda.proofs.Standing.{heaped, first_below}
@@ -8,5 +8,4 @@ pub returns : goal.returns
 returns g c =
     let self = c.args.self.now in
     let o = g.met.V.Ord.total in
-    first_below (λ x y. is_lt (g.V.Ord.cmp x y)) (λ x y. is_lt (g.V.Ord.cmp x y)) self.slots c.first_in.result (λ x y. refl)
-    (c.first_in.ensures o (heaped (slot_total o) self.slots (self.heaped o)) self.single)
+    c.first_in.ensures o (heaped (slot_total o) self.slots (self.heaped o)) self.single ∙ first_below (λ x y. is_lt (g.V.Ord.cmp x y)) self.slots
