@@ -11,7 +11,7 @@ use cache::Cached;
 use journal::Journal;
 use model::Answer;
 use shadow::Shadow;
-use stores::{Card, Store};
+use stores::{Card, Layout, OnCard, Store};
 use trial::{commit, restart, try_out};
 
 // What a trial shows at every left and tear.
@@ -43,26 +43,20 @@ fn tables<S: Store>(rt: &impl Print, name: &str, store: &mut S, cut: u32) -> any
     )
 }
 
-fn journal(rt: &HostRuntime) -> anyhow::Result<Journal> {
-    Journal::format(Card::blank(rt.alloc(), 0, 35)?).map_err(|_| anyhow!(
-        "the card has not the journal store's size"
-    ))
-}
-
-fn shadow(rt: &HostRuntime) -> anyhow::Result<Shadow> {
-    Shadow::format(Card::blank(rt.alloc(), 1, 67)?).map_err(|_| anyhow!(
-        "the card has not the shadow store's size"
+// A store on a new card of so many pages.
+fn store<L: Layout>(rt: &HostRuntime, node: u8, pages: u8) -> anyhow::Result<OnCard<L>> {
+    OnCard::format(Card::blank(rt.alloc(), node, pages)?).map_err(|_| anyhow!(
+        "the card has not the store's size"
     ))
 }
 
 fn main(rt: HostRuntime) -> anyhow::Result<()> {
-    tables(&rt, "journal", &mut journal(&rt)?, 2)?;
-    tables(
-        &rt,
-        "cache over journal",
-        &mut Cached::new(journal(&rt)?),
-        2,
-    )?;
-    tables(&rt, "shadow", &mut shadow(&rt)?, 1)?;
-    tables(&rt, "cache over shadow", &mut Cached::new(shadow(&rt)?), 1)
+    let mut journal: Journal = store(&rt, 0, 35)?;
+    tables(&rt, "journal", &mut journal, 2)?;
+    let mut cached = Cached::new(journal);
+    tables(&rt, "cache over journal", &mut cached, 2)?;
+    let mut shadow: Shadow = store(&rt, 1, 67)?;
+    tables(&rt, "shadow", &mut shadow, 1)?;
+    let mut cached = Cached::new(shadow);
+    tables(&rt, "cache over shadow", &mut cached, 1)
 }

@@ -83,7 +83,7 @@ impl<L: Layout> Store for OnCard<L> {
         if row >= L::ROWS || out.len() != 512 {
             return Answer::OutOfRange;
         }
-        if !self.card.is_on() {
+        if !self.is_on() {
             return Answer::Off;
         }
         let Some(page) = L::row(&self.card, row as u8) else {
@@ -105,7 +105,7 @@ impl<L: Layout> Store for OnCard<L> {
         if row >= L::ROWS {
             return Answer::OutOfRange;
         }
-        if !self.card.is_on() {
+        if !self.is_on() {
             return Answer::Off;
         }
         L::write(&mut self.card, row as u8, page)
