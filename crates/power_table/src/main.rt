@@ -50,13 +50,22 @@ fn store<L: Layout>(rt: &HostRuntime, node: u8, pages: u8) -> anyhow::Result<OnC
     ))
 }
 
+fn journal(rt: &HostRuntime) -> anyhow::Result<Journal> {
+    store(rt, 0, 35)
+}
+
+fn shadow(rt: &HostRuntime) -> anyhow::Result<Shadow> {
+    store(rt, 1, 67)
+}
+
 fn main(rt: HostRuntime) -> anyhow::Result<()> {
-    let mut journal: Journal = store(&rt, 0, 35)?;
-    tables(&rt, "journal", &mut journal, 2)?;
-    let mut cached = Cached::new(journal);
-    tables(&rt, "cache over journal", &mut cached, 2)?;
-    let mut shadow: Shadow = store(&rt, 1, 67)?;
-    tables(&rt, "shadow", &mut shadow, 1)?;
-    let mut cached = Cached::new(shadow);
-    tables(&rt, "cache over shadow", &mut cached, 1)
+    tables(&rt, "journal", &mut journal(&rt)?, 2)?;
+    tables(
+        &rt,
+        "cache over journal",
+        &mut Cached::new(journal(&rt)?),
+        2,
+    )?;
+    tables(&rt, "shadow", &mut shadow(&rt)?, 1)?;
+    tables(&rt, "cache over shadow", &mut Cached::new(shadow(&rt)?), 1)
 }
