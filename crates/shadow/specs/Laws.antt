@@ -1,10 +1,10 @@
--- A card of zeros is a sound store of zero rows.
-use Rattle.std.proofs.Common.{◌≡◌, ℕ, ◌<◌, false, List, [], length, get_or, sym, refl, ap, ◌∙◌, subst, ⊎_elim, arith}
+-- The laws of the layout: how many rows, and a card of zeros is a sound store of zero rows.
+use Rattle.std.proofs.Common.{◌≡◌, ℕ, ◌<◌, false, List, [], length, get_or, refl, ap, ◌∙◌, ⊎_elim, arith}
 use Rattle.std.proofs.lemmas.List.{get_or-replicate, get_or_past, length-replicate}
 use Rattle.std.proofs.lemmas.Bool.{cases_lt}
 use Rattle.model.specs.Limits.{page_bytes}
 use Rattle.stores.specs.Cards.{Medium, zero_page, blank_medium}
-use Rattle.stores.proofs.Rows.{rows_all, same_stored}
+use Rattle.stores.proofs.Rows.{length-rows, rows_all, same_stored}
 use Rattle.shadow.specs.Layout.{row_count, page_count, Sound, Formatted, meaning, row_in, live_page, flag}
 
 module _ (node : ℕ) where
@@ -29,9 +29,12 @@ module _ (node : ℕ) where
     rest = λ k h. flag_zero k;
   }
 
-  pub formatted : (m : Medium) → m ≡ blank → Formatted node m
-  formatted m e = record {
-    blank = e;
-    means = ap meaning e ∙ same_stored _ _ false false 0 0 0 0 0 (rows_all (row_in blank.pages) row_count zero_page row_zero) refl refl refl;
-    sound = subst Sound (sym e) blank_sound;
+  pub shadow_formatted : Formatted node blank
+  shadow_formatted = record {
+    blank = refl;
+    means = same_stored _ _ false false 0 0 0 0 0 (rows_all (row_in blank.pages) row_count zero_page row_zero) refl refl refl;
+    sound = blank_sound;
   }
+
+pub shadow_rows : (m : Medium) → length (meaning m).rows ≡ row_count
+shadow_rows m = length-rows (row_in m.pages) row_count
