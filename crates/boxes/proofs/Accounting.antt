@@ -1,5 +1,5 @@
 -- The account of a script on two new boxes. Assumes nothing.
-use Rattle.std.proofs.Common.{◌≡◌, IfOk, IfErr, Ok, Err, Result, refl, ap}
+use Rattle.std.proofs.Common.{◌≡◌, IfErr, Ok, Err, Result, refl, ap}
 use Rattle.stores.specs.Cards.{medium}
 use Rattle.journal.specs.Layout.{meaning}
 use Rattle.journal.specs.declared.journal.Journal.{Journal}
@@ -11,11 +11,7 @@ use Rattle.pair.specs.declared.pair.Stopped.{Stopped}
 use Rattle.pair.specs.declared.pair.Stopped.TheVariants.{NoMemory, Damaged}
 use Rattle.boxes.specs.Parts.{JournalReady, ShadowReady}
 
--- what holds of a value holds of it in other words, and an error that cannot be is none
-pub made_then : {X Y : Type 0} (r : Result X Y) {P Q : X → Type 0} → IfOk r P → ((x : X) → P x → Q x) → IfOk r Q
-made_then (Ok x) p f = f x p
-made_then (Err y) p f = tt
-
+-- an error that cannot be is none
 pub only_memory : {X : Type 0} (r : Result X Stopped) {P : Type 0} → IfErr r (λ e. e ≡ Damaged → P) → (P → ⊥) → IfErr r (λ e. e ≡ NoMemory)
 only_memory (Ok x) damage never = tt
 only_memory (Err NoMemory) damage never = refl

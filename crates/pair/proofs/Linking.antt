@@ -66,14 +66,6 @@ reply_yes s serial a rest e = ap (λ (b : Bool). rest ++ cond b (Acknowledged s 
 pub reply_no : (s serial : ℕ) (a : Answer) (rest : List Message) → (is_done a || is_seen a) ≡ false → rest ≡ rest ++ reply s serial a
 reply_no s serial a rest e = sym (append-nil rest) ∙ ap (λ (b : Bool). rest ++ cond b (Acknowledged s serial ∷ []) []) (sym e)
 
--- a message comes once more
-pub repeat_done
-    : (p : Pair) (place : ℕ) (m : Message)
-    → slice_get p.link place ≡ Some m → ltb (length p.link) most_messages ≡ true
-    → repeat place p ≡ (Plain Done, with_link (p.link ++ (m ∷ [])) p)
-repeat_done p place m e room =
-    ap (λ (o : Option Message). repeat_of o p) e ∙ cond-false _ _ _ (lt-leb most_messages (length p.link) (ltb-true (length p.link) most_messages room))
-
 module _ (kits : Kits) (free : Free) (place : ℕ) (p : Pair) where
   pub deliver_production
       : (s : ℕ) (x : Production)

@@ -1,6 +1,7 @@
 -- What a send comes to, by the queue. Assumes nothing.
-use Rattle.std.proofs.Common.{◌≡◌, ℕ, ◌<◌, true, false, leb, List, [], ◌∷◌, length, Some, None, Option, sym, refl, ap, ◌∙◌, subst, inl, arith}
+use Rattle.std.proofs.Common.{◌≡◌, ℕ, ◌<◌, true, false, leb, List, [], ◌∷◌, length, Some, None, Option, sym, refl, ap, ◌∙◌, subst, inl}
 use Rattle.std.proofs.lemmas.Bool.{cond-true, cond-false}
+use Rattle.std.proofs.lemmas.Option.{none-some}
 use Rattle.model.specs.Limits.{most_messages, stops}
 use Rattle.model.specs.Row.{oldest}
 use Rattle.model.specs.declared.answer.Answer.TheVariants.{Nothing, LinkFull}
@@ -12,9 +13,6 @@ use Rattle.law.specs.Pair.{Pair, send_from, send_head, send_pending, send}
 use Rattle.law.specs.Stops.{pending_stops}
 use Rattle.law.proofs.Queues.{pending_right}
 use Rattle.queue.specs.Lines.{head_of}
-
-none_some : (s : ℕ) → ◌≡◌ {A = Option ℕ} None (Some s) → ⊥
-none_some s e = let z : ◌≡◌ {A = ℕ} 0 1 = cc in omega arith
 
 module _ (p : Pair) (on : p.collector.power.on ≡ true) (q : Queued p.collector) where
   -- the queue is empty exactly if nothing is pending
@@ -46,7 +44,7 @@ module _ (p : Pair) (on : p.collector.power.on ≡ true) (q : Queued p.collector
   by_head
       : (s : ℕ) (xs : List ℕ) → p.collector.queue ≡ xs → head_of xs ≡ Some s
       → (send_pending (pending_stops p.collector.row) p ≡ send_pending (s ∷ []) p) × (send_head xs p ≡ send_from s (oldest (p.collector.row s).pending) p)
-  by_head s [] e h = absurd (none_some s h)
+  by_head s [] e h = absurd (none-some s h)
   by_head s (x ∷ xs) e h =
       let same : x ≡ s = cc in (
         some_pending x xs (pending_stops p.collector.row) e refl,
@@ -70,7 +68,7 @@ module _ (p : Pair) (on : p.collector.power.on ≡ true) (q : Queued p.collector
   head_below s h = below p.collector.queue refl h
     where
       below : (xs : List ℕ) → p.collector.queue ≡ xs → head_of xs ≡ Some s → s < stops
-      below [] e k = absurd (none_some s k)
+      below [] e k = absurd (none-some s k)
       below (x ∷ xs) e k =
           let same : x ≡ s = cc in
           subst (λ (i : ℕ). i < stops) same (q.pending x (subst (λ ys. Mem x ys) (sym e) (inl refl))).0

@@ -1,6 +1,6 @@
 -- What a pair shows after one of its nodes has answered. Assumes nothing.
-use Rattle.std.proofs.Common.{◌≡◌, ℕ, cond, eqb, List, ◌++◌, IsOkAnd, MatchResult, Some, Ok, Err, Option, Result, sym, refl, ap, ◌∙◌, subst, arith}
-use Rattle.std.specs.List.{slice_get}
+use Rattle.std.proofs.Common.{◌≡◌, ℕ, true, cond, eqb, List, ◌++◌, IsOkAnd, MatchResult, Some, Ok, Err, Option, Result, sym, refl, ap, ◌∙◌, subst, arith}
+use Rattle.std.specs.List.{remove, slice_get}
 use Rattle.model.specs.declared.answer.Answer.{Answer}
 use Rattle.model.specs.declared.answer.Outcome.{Outcome}
 use Rattle.model.specs.declared.answer.Outcome.TheVariants.{Plain}
@@ -8,18 +8,19 @@ use Rattle.model.specs.declared.record.Message.{Message}
 use Rattle.stores.specs.declared.store.Store.{Ghosts as Stores}
 use Rattle.names.specs.declared.set.NameSet.{Ghosts as Sets}
 use Rattle.computations.specs.declared.computation.Computation.{Ghosts as Computations}
-use Rattle.model.specs.declared.call.Call.TheVariants.{Fire, Deliver}
+use Rattle.model.specs.declared.call.Call.TheVariants.{Deliver}
 use Rattle.model.specs.declared.record.Message.TheVariants.{Produced, Acknowledged}
 use Rattle.model.specs.declared.record.Production.{Production}
 use Rattle.model.specs.declared.record.Record.{Record}
-use Rattle.law.specs.Node.{Node as LawNode, Kit, Free, hand_in, fire}
-use Rattle.law.specs.Pair.{Pair as LawPair, at_collector, at_spotter, arrives, reply, happens}
+use Rattle.law.specs.Node.{Node as LawNode, Kit, Free, hand_in}
+use Rattle.law.specs.Pair.{Pair as LawPair, at_collector, at_spotter, arrives, as_record, reply, deliver, happens}
 use Rattle.link.specs.declared.Link.{Link}
 use Rattle.link.specs.Carried.{carried}
 use Rattle.node.specs.Promises.{Told as NodeTold}
 use Rattle.node.specs.Shows.{kit_of, free_of as node_free, Shows as NodeShows}
 use Rattle.node.specs.declared.node.Damaged.{Damaged}
 use Rattle.node.specs.declared.node.Node.{Node}
+use Rattle.pair.proofs.Linking.{deliver_production}
 use Rattle.pair.specs.Promises.{Told, receiver, free_of}
 use Rattle.pair.specs.Shows.{kits_of, collector_free, spotter_free, Shows}
 use Rattle.pair.specs.declared.pair.Pair.{Pair}
@@ -45,10 +46,6 @@ mapped_ok {a} {r} {x} m e = is_ok r (subst (λ b. Mapped b r) e m)
 -- a call that comes to the same
 pub told_as : {Shown : LawPair → Type 0} {r : Result Outcome Damaged} {x y : Outcome × LawPair} → x ≡ y → Told Shown r y → Told Shown r x
 told_as {Shown} {r} e t = subst (λ (z : Outcome × LawPair). Told Shown r z) (sym e) t
-
--- a result that comes to the same
-pub told_result : {Shown : LawPair → Type 0} {q r : Result Outcome Damaged} {x : Outcome × LawPair} → r ≡ q → Told Shown q x → Told Shown r x
-told_result e t = record { outcome = e ∙ t.outcome; shows = t.shows }
 
 -- the record that was handed in, in other words
 pub told_given
@@ -102,30 +99,6 @@ module _ {S N C X T O D Y : Type 0} (store : Stores S) (set : Sets N) (computati
         shows = record { collector = collector; spotter = t.shows; link = link ∙ ap (λ (b : Answer). rest ++ reply s serial b) same };
       }
 
-  -- a due has fired at one of the nodes
-  module _ (v : Pair S N C T O D) (p : LawPair) (k : ℕ) {a : Result Answer Damaged} {r : Result Outcome Damaged} (shows : Shows store set computation store' set' computation' v p) (mapped : Mapped a r) where
-    pub told_fire_0
-        : (n : Node S N C)
-        → k ≡ 0
-        → NodeTold (NodeShows store set computation n) (λ b. Ok b) a (fire (kit_of store set computation) (node_free store set computation 0 v.collector n) p.collector)
-        → Told (Shows store set computation store' set' computation' (record { collector = n; spotter = v.spotter; link = v.link })) r
-        (happens (kits_of store set computation store' set' computation') (free_of store set computation store' set' computation' v (record { collector = n; spotter = v.spotter; link = v.link }) (Fire k)) (Fire k) p)
-    told_fire_0 n e t =
-        let v' : Pair S N C T O D = record { collector = n; spotter = v.spotter; link = v.link } in
-        subst (λ (j : ℕ). Told (Shows store set computation store' set' computation' v') r (happens (kits_of store set computation store' set' computation') (free_of store set computation store' set' computation' v v' (Fire j)) (Fire j) p))
-        (sym e) (told_collector n v.spotter v.link p mapped t shows.spotter shows.link)
-
-    pub told_fire_1
-        : (m : Node T O D)
-        → k ≡ 1
-        → NodeTold (NodeShows store' set' computation' m) (λ b. Ok b) a (fire (kit_of store' set' computation') (node_free store' set' computation' 0 v.spotter m) p.spotter)
-        → Told (Shows store set computation store' set' computation' (record { collector = v.collector; spotter = m; link = v.link })) r
-        (happens (kits_of store set computation store' set' computation') (free_of store set computation store' set' computation' v (record { collector = v.collector; spotter = m; link = v.link }) (Fire k)) (Fire k) p)
-    told_fire_1 m e t =
-        let v' : Pair S N C T O D = record { collector = v.collector; spotter = m; link = v.link } in
-        subst (λ (j : ℕ). Told (Shows store set computation store' set' computation' v') r (happens (kits_of store set computation store' set' computation') (free_of store set computation store' set' computation' v v' (Fire j)) (Fire j) p))
-        (sym e) (told_spotter v.collector m v.link p mapped t shows.collector shows.link)
-
   -- what is left free in a delivery is the receiver's
   module _ (v v' : Pair S N C T O D) (place : ℕ) where
     by_receiver : (o : Option Message) → slice_get (carried v.link) place ≡ o → free_of store set computation store' set' computation' v v' (Deliver place) ≡ cond (eqb (receiver o) 0) (collector_free store set computation store' set' computation' 0 v v') (spotter_free store set computation store' set' computation' 0 v v')
@@ -136,3 +109,20 @@ module _ {S N C X T O D Y : Type 0} (store : Stores S) (set : Sets N) (computati
 
     pub free_word : (s n : ℕ) → slice_get (carried v.link) place ≡ Some (Acknowledged s n) → free_of store set computation store' set' computation' v v' (Deliver place) ≡ collector_free store set computation store' set' computation' 0 v v'
     free_word s n e = by_receiver (Some (Acknowledged s n)) e
+
+  -- the production at a place has arrived at a spotter that is on
+  pub told_landing
+      : (v : Pair S N C T O D) (m : Node T O D) (l : Link) (place s : ℕ) (x : Production) (p : LawPair) {a : Answer} {r : Record}
+      → slice_get (carried v.link) place ≡ Some (Produced s x) → Shows store set computation store' set' computation' v p → p.spotter.power.on ≡ true
+      → r ≡ as_record s x
+      → NodeTold {R = Result Answer Damaged} (NodeShows store' set' computation' m) (λ b. Ok b) (Ok a) (hand_in (kit_of store' set' computation') (node_free store' set' computation' 0 v.spotter m) r p.spotter)
+      → carried l ≡ remove p.link place ++ reply s x.serial a
+      → Told (Shows store set computation store' set' computation' (record { collector = v.collector; spotter = m; link = l })) (Ok (Plain a))
+      (happens (kits_of store set computation store' set' computation') (free_of store set computation store' set' computation' v (record { collector = v.collector; spotter = m; link = l }) (Deliver place)) (Deliver place) p)
+  told_landing v m l place s x p stood shows on given t link =
+      let v' : Pair S N C T O D = record { collector = v.collector; spotter = m; link = l } in
+      let kits = kits_of store set computation store' set' computation' in
+      let free = spotter_free store set computation store' set' computation' 0 v v' in
+      let here = ap (λ (ms : List Message). slice_get ms place) (sym shows.link) ∙ stood in
+      told_as (ap (λ (f : Free). deliver kits f place p) (free_production v v' place s x stood) ∙ deliver_production kits free place p s x here on)
+      (told_arrival v.collector m l p s x.serial (remove p.link place) (told_given kits.spotter free p.spotter given t) shows.collector link)

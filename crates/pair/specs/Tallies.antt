@@ -11,6 +11,10 @@ use Rattle.pair.specs.Shows.{Shows}
 use Rattle.pair.specs.declared.pair.Pair.{Pair}
 use Rattle.pair.specs.declared.pair.Tally.{Tally}
 
+-- a measure of a computation's states, on their bytes
+abbrev pub measured : {C X : Type 0} → Computations C X → (X → ℕ) → List ℕ → ℕ
+measured computation measure bs = measure (computation.operations.load bs)
+
 -- by measures of the two states: what the collector's holds, and what the spotter's has in total
 abbrev pub tally_of : (List ℕ → ℕ) → (List ℕ → ℕ) → LawPair → ℕ → Tally
 tally_of held landed p s = record {
@@ -30,6 +34,6 @@ pub record Tells
     (holds : X → ℕ) (totals : Y → ℕ) (v v' : Pair S N C T O D) (s : ℕ) (r : Result (Option Tally) Damaged) : Type 0 where
   pub answer
       : (p : LawPair) → Shows store set computation store' set' computation' v p
-      → r ≡ Ok (told_of (λ bs. holds (computation.operations.load bs)) (λ bs. totals (computation'.operations.load bs)) p s)
+      → r ≡ Ok (told_of (measured computation holds) (measured computation' totals) p s)
   pub shows
       : (p : LawPair) → Shows store set computation store' set' computation' v p → Shows store set computation store' set' computation' v' p

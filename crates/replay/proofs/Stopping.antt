@@ -1,7 +1,5 @@
 -- The lines of the stops, one after another. Assumes nothing.
-use Rattle.std.proofs.Common.{◌≡◌, ℕ, suc, ◌+◌, [], ◌++◌, Option, refl, ap, ◌∙◌, add-one, arith}
-use Rattle.pair.specs.declared.pair.Stopped.{Stopped}
-use Rattle.pair.specs.declared.pair.Stopped.TheVariants.{NoMemory, Damaged}
+use Rattle.std.proofs.Common.{◌≡◌, ℕ, suc, ◌+◌, [], ◌++◌, Option, refl, ap, ◌∙◌, add-one}
 use Rattle.pair.specs.declared.pair.Tally.{Tally}
 use Rattle.replay.specs.Stops.{tally_line, stops_below}
 
@@ -15,6 +13,3 @@ at_next f n = refl
 
 pub one_more : (f : ℕ → Option Tally) (n : ℕ) → stops_below f (n + 1) ≡ stops_below f n ++ tally_line n (f n)
 one_more f n = ap (stops_below f) (add-one n) ∙ at_next f n
-
-pub not_damaged : ◌≡◌ {A = Stopped} NoMemory Damaged → ⊥
-not_damaged e = let z : ◌≡◌ {A = ℕ} 0 1 = cc in omega arith

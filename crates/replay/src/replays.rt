@@ -2,6 +2,7 @@
 ghost use Rattle.std.specs.Prelude.{◌≡◌, ◌++◌, IfOk, IfErr, string_bytes};
 ghost use Rattle.law.specs.Pair.{Pair as LawPair};
 ghost use Rattle.pair.specs.Shows.{Shows};
+ghost use Rattle.pair.specs.Tallies.{measured};
 ghost use Rattle.pair.specs.declared.pair.Stopped.TheVariants.{Damaged as DamagedRow};
 ghost use Rattle.replay.specs.Account.{Replays, last_calls, power_on};
 ghost use Rattle.replay.specs.Script.{calls_in, fault_in, placed};
@@ -22,7 +23,7 @@ pub fn replay<S: Store, N: NameSet, C: Conserving, T: Store, O: NameSet, D: Tota
     pair: &mut Pair<S, N, C, T, O, D>,
     script: &[u8],
 ) -> Result<String, Stopped>
-    ensures account { IfOk result (λ t. Replays S.Store N.NameSet C.Computation T.Store O.NameSet D.Computation (λ bs. C.holds (C.Computation.operations.load bs)) (λ bs. D.totals (D.Computation.operations.load bs)) pair.old pair.new script.now (string_bytes t)) }
+    ensures account { IfOk result (λ t. Replays S.Store N.NameSet C.Computation T.Store O.NameSet D.Computation (measured C.Computation C.holds) (measured D.Computation D.totals) pair.old pair.new script.now (string_bytes t)) }
     ensures undamaged { IfErr result (λ e. e ≡ DamagedRow → (p : LawPair) → Shows S.Store N.NameSet C.Computation T.Store O.NameSet D.Computation pair.old p → ⊥) }
 {
     let script = whole_script(heap, script)?;

@@ -1,7 +1,7 @@
 use Rattle.std.proofs.Common.{[], arith}
-use Rattle.std.proofs.lemmas.Result.{MatchResult-at_ok}
+use Rattle.std.proofs.lemmas.Result.{IfOk-weaker, MatchResult-at_ok}
 use Rattle.runs.proofs.Counting.{counter_law}
-use Rattle.boxes.proofs.Accounting.{made_then, only_memory, journal_blank, shadow_blank}
+use Rattle.boxes.proofs.Accounting.{only_memory, journal_blank, shadow_blank}
 use Rattle.boxes.proofs.boxes.account_of.Goals as goal
 
 pub returns : goal.returns
@@ -14,7 +14,7 @@ returns c =
     made.blank (journal.formatted.sound, journal.agrees) shadow.formatted.sound
     (journal_blank parts.collector_store journal) (shadow_blank parts.spotter_store shadow) in
     record {
-      account = made_then c.replay.result c.replay.ensures.account (λ t replays.
+      account = IfOk-weaker c.replay.result _ _ (λ t replays.
           let x = replays [] new.0 new.1 new.2 in
           record {
             outcomes = x.outcomes;
@@ -23,6 +23,6 @@ returns c =
             told = x.extends.told;
             counted = (counter_law 4 2 2 2 (omega arith) (omega arith) (omega arith) (omega arith) x.extends.events x.extends.end x.extends.told.goes.run).1;
             text_is = x.text_is;
-          });
+          }) c.replay.ensures.account;
       only_memory = only_memory c.replay.result c.replay.ensures.undamaged (λ damage. damage new.0 new.2);
     }

@@ -1,6 +1,6 @@
 use Rattle.std.proofs.Common.{◌≡◌, ℕ, List, ◌++◌, string_bytes, Option, sym, ap, ◌∙◌, arith}
 use Rattle.model.specs.Limits.{stops}
-use Rattle.pair.specs.Tallies.{told_of}
+use Rattle.pair.specs.Tallies.{measured, told_of}
 use Rattle.pair.specs.declared.pair.Tally.{Tally}
 use Rattle.replay.specs.Stops.{stops_below}
 use Rattle.replay.proofs.Stopping.{none_below, one_more}
@@ -16,7 +16,7 @@ loop-stop-preserved g c =
     let pushed = c.in_ok-push_str.ensures.bytes ∙ ap (λ (l : List ℕ). text ++ l) c.as_str.ensures.value in (
       λ p shows. c.one_stop.ensures.shows p (c.loop-stop.invariant.0 p shows),
       λ p shows.
-          let tally : ℕ → Option Tally = told_of (λ bs. g.C.Conserving.holds (g.C.Computation.operations.load bs)) (λ bs. g.D.Totalling.totals (g.D.Computation.operations.load bs)) p in
+          let tally : ℕ → Option Tally = told_of (measured g.C.Computation g.C.Conserving.holds) (measured g.D.Computation g.D.Totalling.totals) p in
           pushed
           ∙ ap (λ (t : List ℕ). t ++ string_bytes c.in_ok-line.line) (c.loop-stop.invariant.1 p shows)
           ∙ ap (λ (l : List ℕ). stops_below tally stop ++ l) (c.in_ok-line.ensures.text p (c.loop-stop.invariant.0 p shows))
@@ -27,7 +27,7 @@ pub returns : goal.returns
 returns g c =
     let end : c.loop-stop.stop ≡ stops = omega arith in
     record {
-      text = λ p shows. c.loop-stop.invariant.1 p shows ∙ ap (λ (n : ℕ). stops_below (told_of (λ bs. g.C.Conserving.holds (g.C.Computation.operations.load bs)) (λ bs. g.D.Totalling.totals (g.D.Computation.operations.load bs)) p) n) end;
+      text = λ p shows. c.loop-stop.invariant.1 p shows ∙ ap (λ (n : ℕ). stops_below (told_of (measured g.C.Computation g.C.Conserving.holds) (measured g.D.Computation g.D.Totalling.totals) p) n) end;
       shows = c.loop-stop.invariant.0;
       undamaged = tt;
     }

@@ -20,9 +20,3 @@ returns g c = λ p shows.
     let low_is = ok_is c.in_ok-low.low (low_watermark kits p) (found.value p.collector shows.collector con) in
     told_as (pass_advances kits free p con son shows.collector.kept.watermark_fits ∙ ap (λ (t : ℕ). at_spotter (advance kits.spotter free t p.spotter) p) (sym low_is))
     (told_spotter g.S.Store g.N.NameSet g.C.Computation g.T.Store g.O.NameSet g.D.Computation c.low_watermark.new.self c.advance.new.self v.link p refl (rewrapped (λ a. Ok a) (c.advance.ensures p.spotter shows.spotter)) (found.stays.shows p.collector shows.collector) shows.link)
-
-pub returns-in_err-low : goal.returns-in_err-low
-returns-in_err-low g c = λ p shows.
-    let v = c.args.self.now in
-    let con = sym (is_on g.S.Store g.N.NameSet g.C.Computation g.met.S.Store.turn_within v.collector p.collector shows.collector) ∙ sym c.if-not-is_on.ensures in
-    absurd (err_none _ _ (c.in_err-low.ensures.value p.collector shows.collector con))

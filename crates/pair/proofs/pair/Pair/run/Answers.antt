@@ -7,12 +7,6 @@ use Rattle.pair.specs.Runs.{Ran}
 use Rattle.pair.proofs.Running.{no_call, kit_keeps, ran_more, ran_carries, never_damaged}
 use Rattle.pair.proofs.pair.Pair.run.Goals as goal
 
-pub loop-call-init : goal.loop-call-init
-loop-call-init g c = let made = c.in_ok-outcomes.ensures in (made.len, made.capacity, (made.items, refl))
-
-pub push_reserved-requires : goal.push_reserved-requires
-push_reserved-requires g c = omega arith
-
 pub returns-in_err-outcome-clause-stops : goal.returns-in_err-outcome-clause-stops
 returns-in_err-outcome-clause-stops g c =
     let i = c.loop-call.call-index in

@@ -23,16 +23,6 @@ returns-then-is_full g c = λ p shows.
     let full = ap (λ (ms : List Message). leb most_messages (length ms)) (sym shows.link) ∙ sym c.is_full.ensures ∙ c.if-is_full.true in
     told_as (send_full p on (shows.collector.follows on).queued c.in-Some.stop head full) (told_same g.S.Store g.N.NameSet g.C.Computation g.T.Store g.O.NameSet g.D.Computation shows)
 
-pub returns-in_default-oldest : goal.returns-in_default-oldest
-returns-in_default-oldest g c = λ p shows.
-    let v = c.args.self.now in
-    let on = sym (is_on g.S.Store g.N.NameSet g.C.Computation g.met.S.Store.turn_within v.collector p.collector shows.collector) ∙ sym c.if-not-is_on.ensures in
-    let queued = (shows.collector.follows on).queued in
-    let head = sym (c.in-Some.ensures p.collector shows.collector on) in
-    let room = ap (λ (ms : List Message). leb most_messages (length ms)) (sym shows.link) ∙ sym c.is_full.ensures ∙ c.if-is_full.false in
-    let below = head_below p on queued c.in-Some.stop head in
-    told_as (send_head_lem p on queued c.in-Some.stop _ head room (sym (c.in_default-oldest.ensures p.collector shows.collector on below))) (told_same g.S.Store g.N.NameSet g.C.Computation g.T.Store g.O.NameSet g.D.Computation shows)
-
 pub returns : goal.returns
 returns g c = λ p shows.
     let v = c.args.self.now in

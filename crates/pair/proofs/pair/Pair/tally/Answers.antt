@@ -1,6 +1,7 @@
 use Rattle.std.proofs.Common.{◌<◌, sym, ◌∙◌, arith}
 use Rattle.model.specs.Limits.{stops}
 use Rattle.node.proofs.Showing.{is_on}
+use Rattle.pair.specs.Tallies.{measured}
 use Rattle.pair.proofs.Telling.{ok_is}
 use Rattle.pair.proofs.Tallying.{tally_told}
 use Rattle.pair.proofs.pair.Pair.tally.Goals as goal
@@ -17,7 +18,7 @@ returns g c =
       answer = λ p shows.
           let con = sym (is_on g.S.Store g.N.NameSet g.C.Computation g.met.S.Store.turn_within v.collector p.collector shows.collector) ∙ sym c.if-not-is_on.ensures in
           let son = sym (is_on g.T.Store g.O.NameSet g.D.Computation g.met.T.Store.turn_within v.spotter p.spotter shows.spotter) ∙ sym c.if-not-is_on-2.ensures in
-          tally_told (λ bs. g.C.Conserving.holds (g.C.Computation.operations.load bs)) (λ bs. g.D.Totalling.totals (g.D.Computation.operations.load bs)) p s below con son
+          tally_told (measured g.C.Computation g.C.Conserving.holds) (measured g.D.Computation g.D.Totalling.totals) p s below con son
           (ok_is _ _ (held.value p.collector shows.collector (con, below)))
           (ok_is _ _ (pending.value p.collector (held.stays.shows p.collector shows.collector) (con, below)))
           (ok_is _ _ (landed.value p.spotter shows.spotter (son, below)));
