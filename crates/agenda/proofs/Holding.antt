@@ -128,6 +128,3 @@ module _ {V : Type 0} where
       let r = slot_of xs q (one.0 q l) in
       let apart : (q ≡ s → ⊥) = λ e. none r.1.0 r.0 r.1.1 (ap (λ (z : Slot V). z.stop) (r.1.2 r.0) ∙ r.2 ∙ e) in
       sym (ap (λ (b : Bool). cond b value (held xs q)) (ne_eqb q s apart))
-
-  pub single_some : (xs : List (Slot V)) → length xs ≤ 0 → Single xs → ⊥
-  single_some xs n one = let r = slot_of xs 0 (one.0 0 (omega arith)) in omega (arith, r.1.1)

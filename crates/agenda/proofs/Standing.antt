@@ -59,10 +59,8 @@ less_is x y = go (ltb x y) (eqb x y)
     go false false = refl
 
 -- the first of the slots, by a test of the values
-pub first_below : {V : Type 0} (less beats : V → V → Bool) (xs : List (Slot V)) (r : Option (ℕ × V)) → ((x y : V) → less x y ≡ beats x y) →
-    r ≡ first_best (λ x y. less x y) (held xs) stops → r ≡ first_best (λ x y. beats x y) (held_below xs) stops
-first_below less beats xs r e h =
-    h ∙ (λ k. first_best (λ x y. e x y k) (held xs) stops) ∙ best_same (λ x y. beats x y) (held xs) (held_below xs) stops (λ q l. sym (held_is xs q l))
+pub first_below : {V : Type 0} (beats : V → V → Bool) (xs : List (Slot V)) → first_best beats (held xs) stops ≡ first_best beats (held_below xs) stops
+first_below beats xs = best_same beats (held xs) (held_below xs) stops (λ q l. sym (held_is xs q l))
 
 -- the panel's slots hold productions in a wrapping of their own
 pub changed_mapped : {V W : Type 0} (f : V → W) (s : ℕ) (value : Option V) (at : ℕ → Option V) → (λ (q : ℕ). option_map f (changed s value at q)) ≡ changed s (option_map f value) (λ q. option_map f (at q))

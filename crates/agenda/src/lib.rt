@@ -4,11 +4,11 @@
 // and a change moves one slot to its new place.
 #![tactic(auto)]
 
+mod agenda;
 mod offer;
 mod panel;
 mod slot;
 mod slots;
-mod timers;
 
+pub use agenda::{Agenda, Timers};
 pub use panel::Panel;
-pub use timers::Timers;

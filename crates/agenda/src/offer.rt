@@ -1,4 +1,5 @@
-// A production as the panel ranks it: the greatest amount comes first.
+// A production as the panel ranks it: the greatest amount comes first. The order is by hand: a derive would compare all
+// that a production has.
 ghost use Rattle.std.specs.Prelude.{refl};
 ghost use Rattle.std.specs.Cmp.{eq_by_cmp_equiv, partial_equiv_from_equiv, partial_order_from_total};
 ghost use Rattle.std.specs.Ordering.{as_partial_cmp, eq_by_cmp};

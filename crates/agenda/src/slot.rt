@@ -59,9 +59,6 @@ impl<V: Ord> Ord for Slot<V> {
     ghost matches_eq = { λ _ _. refl };
 
     fn cmp(&self, other: &Slot<V>) -> Ordering {
-        match latest(&self.value, &other.value) {
-            Ordering::Equal => self.stop.cmp(&other.stop),
-            unequal => unequal,
-        }
+        latest(&self.value, &other.value).then(self.stop.cmp(&other.stop))
     }
 }

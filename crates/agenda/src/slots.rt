@@ -17,29 +17,17 @@ use heap::change_at;
 pub(crate) fn empty<V: Copy>() -> [Slot<V>; 32]
     ensures { result ≡ map empty_slot (range_with_len 0 stops) }
 {
-    let mut slots = [Slot {
+    std::array::from_fn(|i| Slot {
         value: None,
-        stop: 0,
-    }; 32];
-    for i in 0..32 {
-        slots[i] = Slot {
-            value: None,
-            stop: i as u16,
-        };
-    }
-    slots
+        stop: i as u16,
+    })
 }
 
 // Where a stop's slot is; there are so few that a look at each is quick.
 fn place_of<V>(slots: &[Slot<V>], stop: u16) -> Option<usize>
     ensures { MatchOption result ((k : ℕ) (d : SlotOf V) → k < length slots.now → (slice_index_or slots.now k d).stop ≢ stop) (λ i. (i < length slots.now) × ((d : SlotOf V) → (slice_index_or slots.now i d).stop ≡ stop)) }
 {
-    for i in 0..slots.len() {
-        if slots[i].stop == stop {
-            return Some(i);
-        }
-    }
-    None
+    slots.iter().position(|slot| slot.stop == stop)
 }
 
 // A stop now has this value, or none.
@@ -57,21 +45,14 @@ pub(crate) fn set_in<V: Ord + Copy>(slots: &mut [Slot<V>], stop: u16, value: Opt
 pub(crate) fn first_in<V: Ord + Copy>(slots: &[Slot<V>]) -> Option<(u16, V)>
     ensures { (o : IsTotalOrder V.Ord.cmp) → Heaped (slot_total o) slots.now → Single slots.now → result ≡ first_best (λ x y. is_lt (V.Ord.cmp x y)) (held slots.now) stops }
 {
-    match heap::least(slots) {
-        Some(slot) => match slot.value {
-            Some(value) => Some((slot.stop, value)),
-            None => None,
-        },
-        None => None,
-    }
+    let slot = heap::least(slots)?;
+    Some((slot.stop, slot.value?))
 }
 
 // The value of a stop.
 pub(crate) fn value_in<V: Copy>(slots: &[Slot<V>], stop: u16) -> Option<V>
     ensures { Single slots.now → stop < stops → result ≡ held slots.now stop }
 {
-    match place_of(slots, stop) {
-        Some(at) => slots[at].value,
-        None => None,
-    }
+    let at = place_of(slots, stop)?;
+    slots[at].value
 }

@@ -4,8 +4,6 @@
 
 ghost use Rattle.cases.specs.Worked.{Worked};
 
-pub fn worked_cases() -> u8
+pub fn worked_cases()
     ensures { Worked }
-{
-    0
-}
+{}

@@ -6,31 +6,23 @@ ghost use Rattle.model.specs.OnBytes.{on_bytes};
 use super::computation::Computation;
 use super::weight::{Conserving, Totalling};
 
-pub fn lawful_on_bytes<C: Computation>() -> u8
+pub fn lawful_on_bytes<C: Computation>()
     ensures { Lawful (on_bytes C.operations) StateBytes }
-{
-    0
-}
+{}
 
-pub fn conserves_on_bytes<C: Conserving>() -> u8
+pub fn conserves_on_bytes<C: Conserving>()
     ensures { Conserves (on_bytes C.operations) StateBytes (λ bs. C.holds (C.operations.load bs)) }
-{
-    0
-}
+{}
 
-pub fn totals_on_bytes<C: Totalling>() -> u8
+pub fn totals_on_bytes<C: Totalling>()
     ensures { Totals (on_bytes C.operations) StateBytes (λ bs. C.totals (C.operations.load bs)) }
-{
-    0
-}
+{}
 
 // Twelve bytes, and zeros behind them.
 pub fn padded(front: [u8; 12]) -> [u8; 32]
     ensures { result ≡ front ++ replicate 20 0 }
 {
-    let [a, b, c, d, e, f, g, h, i, j, k, l] = front;
-    [
-        a, b, c, d, e, f, g, h, i, j, k, l, 0, 0, 0, 0, 0, 0, 0, 0, 0, 0, 0, 0, 0, 0, 0, 0, 0, 0,
-        0, 0,
-    ]
+    let mut bytes = [0; 32];
+    bytes[..12].copy_from_slice(&front);
+    bytes
 }

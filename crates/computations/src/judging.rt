@@ -5,23 +5,20 @@ ghost use Rattle.computations.specs.Judging.{Considered, Attended};
 
 use super::admission::admit;
 use super::computation::Computation;
+use super::moment::Moment;
 use model::{Answer, Record};
 
 // The state after a record that is admitted and what it emits, or the answer that refuses it.
 pub fn consider<C: Computation>(
     bytes: &[u8; 32],
-    on: bool,
-    w: u32,
-    seen: bool,
+    moment: Moment,
     given: &Record,
 ) -> Result<(C::State, Option<(u32, u16)>), Answer>
-    ensures { Considered C.operations C.sound (C.operations.load bytes.now) on w seen given.now result }
+    ensures { Considered C.operations C.sound (C.operations.load bytes.now) moment.on moment.w moment.seen given.now result }
 {
     let state = C::load(bytes);
-    match admit::<C>(&state, on, w, seen, given) {
-        Answer::Done => Ok(C::take(&state, w, given.name.time, given.amount)),
-        refusal => Err(refusal),
-    }
+    admit::<C>(&state, moment, given).done()?;
+    Ok(C::take(&state, moment.w, given.name.time, given.amount))
 }
 
 // The state after its due was fired and what it emits, if the watermark has reached one.
@@ -29,10 +26,8 @@ pub fn fire_due<C: Computation>(bytes: &[u8; 32], w: u32) -> Option<(C::State, O
     ensures { Attended C.operations C.sound (C.operations.load bytes.now) w result }
 {
     let state = C::load(bytes);
-    match C::due(&state) {
-        Some(due) if due <= w.min(4_000_000_000) => Some(C::fire(&state)),
-        _ => None,
-    }
+    let due = C::due(&state)?;
+    (due <= w.min(4_000_000_000)).then(|| C::fire(&state))
 }
 
 // The second at which the state wants to fire, if it does.

@@ -26,7 +26,8 @@ pub trait Totalling: Computation {
     ghost adds: { Totals Self.Computation.operations Self.Computation.sound totals };
 }
 
-// What the state of 32 bytes holds.
+// What the state of 32 bytes holds. Like `due_in` and `total_in` it loads and asks; one function of the three would take
+// the question as a closure, and be longer.
 pub fn held_in<C: Conserving>(bytes: &[u8; 32]) -> u32
     ensures { result ≡ C.holds (C.operations.load bytes.now) }
 {

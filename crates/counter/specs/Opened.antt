@@ -68,6 +68,23 @@ module _ (s : CounterState) where
             found_is (f + 1) n m (record { from = x; to = omega (arith, h.to); some = h.some; before = λ k a b. h.before k (omega arith) b })
       ]
 
+  pub nothing_is : (f n : ℕ) → Empty s f n → earliest_from s f n ≡ None
+  nothing_is f zero h = nowhere f
+  nothing_is f (suc n) h = later f n (h f (omega arith) (omega arith)) ∙ nothing_is (f + 1) n (λ k a b. h k (omega arith) (omega arith))
+
+  -- so that the search is known by what it finds
+  pub earliest_is : (f n : ℕ) (o : Option ℕ) → MatchOption o (Empty s f n) (Earliest s f n) → o ≡ earliest_from s f n
+  earliest_is f n None h = sym (nothing_is f n h)
+  earliest_is f n (Some m) h = sym (found_is f n m h)
+
+  -- the first of some minutes with a sum is the earliest of them
+  pub first_of
+      : (f n : ℕ) (o : Option ℕ)
+      → MatchOption o ((k : ℕ) → f ≤ k → k < f + n → sum_of s k ≡ 0) (λ m. (f ≤ m) × (m < f + n) × (0 < sum_of s m) × ((k : ℕ) → f ≤ k → k < m → sum_of s k ≡ 0))
+      → MatchOption o (Empty s f n) (Earliest s f n)
+  first_of f n None h = h
+  first_of f n (Some m) h = record { from = h.0; to = h.1; some = h.2; before = h.3 }
+
   -- what is known of the minute that is found, and of the open minutes if none is
   pub first_open : (m : ℕ) → earliest s ≡ Some m → Earliest s (s.mark / 60) 4 m
   first_open m e = subst (λ (o : Option ℕ). MatchOption o (Empty s (s.mark / 60) 4) (Earliest s (s.mark / 60) 4)) e (searched (s.mark / 60) 4)

@@ -2,7 +2,6 @@
 ghost use Rattle.counter.specs.Counter.{counter as counting, CounterSound, held as holding};
 ghost use Rattle.counter.specs.Laws.{counter_lawful, counter_conserves};
 
-use super::layout::{loaded, stored};
 use super::minutes::{earliest_minute, raised_mark, sum_of};
 use super::state::CounterState;
 use computations::{Computation, Conserving};
@@ -25,10 +24,7 @@ impl Computation for Counter {
     }
 
     fn due(state: &CounterState) -> Option<u32> {
-        match earliest_minute(state) {
-            Some(minute) => Some(minute.saturating_add(1).saturating_mul(60)),
-            None => None,
-        }
+        earliest_minute(state).map(|minute| minute.saturating_add(1).saturating_mul(60))
     }
 
     fn verdict(state: &CounterState, w: u32, time: u32, amount: u16) -> Verdict {
@@ -67,11 +63,11 @@ impl Computation for Counter {
     }
 
     fn load(bytes: &[u8; 32]) -> CounterState {
-        loaded(bytes)
+        CounterState::from(*bytes)
     }
 
     fn store(state: &CounterState) -> [u8; 32] {
-        stored(state)
+        <[u8; 32]>::from(*state)
     }
 }
 
@@ -81,7 +77,6 @@ impl Conserving for Counter {
     ghost conserves = { counter_conserves };
 
     fn held(state: &CounterState) -> u32 {
-        let [a, b, c, d] = state.sums;
-        u32::from(a) + u32::from(b) + u32::from(c) + u32::from(d)
+        state.sums.iter().map(|sum| u32::from(*sum)).sum()
     }
 }

@@ -17,21 +17,13 @@ pub(super) fn earliest_minute(state: &CounterState) -> Option<u32>
     ensures first { MatchOption result (Empty state.now (state.now.mark / 60) 4) (Earliest state.now (state.now.mark / 60) 4) }
 {
     let first = state.mark / 60;
-    for minute in first..first + 4 {
-        if sum_of(state, minute) > 0 {
-            return Some(minute);
-        }
-    }
-    None
+    (first..first + 4).find(|minute| sum_of(state, *minute) > 0)
 }
 
 // The mark from which a take at a watermark begins: it passes empty minutes only.
 pub(super) fn raised_mark(state: &CounterState, w: u32) -> u32
     ensures { result ≡ raised state.now w }
 {
-    let reached = match earliest_minute(state) {
-        Some(minute) => minute.min(w / 60),
-        None => w / 60,
-    };
+    let reached = earliest_minute(state).map_or(w / 60, |minute| minute.min(w / 60));
     state.mark.max(60 * reached)
 }

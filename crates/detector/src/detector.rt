@@ -3,7 +3,6 @@ ghost use Rattle.std.specs.Prelude.{◌≡◌};
 ghost use Rattle.detector.specs.Detector.{detector as detecting, DetectorSound};
 ghost use Rattle.detector.specs.Laws.{detector_lawful, detector_totals};
 
-use super::layout::{loaded, stored};
 use super::prediction::{is_spike, moved_to};
 use super::state::DetectorState;
 use computations::{Computation, Totalling};
@@ -43,11 +42,7 @@ impl Computation for Detector {
         time: u32,
         amount: u16,
     ) -> (DetectorState, Option<(u32, u16)>) {
-        let emission = if is_spike(state.predicted, amount) {
-            Some((time, amount))
-        } else {
-            None
-        };
+        let emission = is_spike(state.predicted, amount).then_some((time, amount));
         let after = DetectorState {
             predicted: moved_to(state.predicted, amount),
             total: state.total + u32::from(amount),
@@ -64,11 +59,11 @@ impl Computation for Detector {
     }
 
     fn load(bytes: &[u8; 32]) -> DetectorState {
-        loaded(bytes)
+        DetectorState::from(*bytes)
     }
 
     fn store(state: &DetectorState) -> [u8; 32] {
-        stored(state)
+        <[u8; 32]>::from(*state)
     }
 }
 

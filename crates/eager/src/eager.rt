@@ -1,6 +1,6 @@
 // A third computation, as unpleasant as the laws allow: whatever holds for every computation has to hold for it.
 ghost use Rattle.std.specs.Prelude.{◌≡◌};
-ghost use Rattle.eager.specs.Eager.{eager as eagerly, EagerSound, eager_store};
+ghost use Rattle.eager.specs.Eager.{eager as eagerly, EagerSound};
 ghost use Rattle.eager.specs.Laws.{eager_lawful};
 
 use super::state::EagerState;
@@ -43,18 +43,12 @@ impl Computation for Eager {
         time: u32,
         _amount: u16,
     ) -> (EagerState, Option<(u32, u16)>) {
-        let due = match state.due {
-            Some(due) => Some(due.min(time)),
-            None => Some(time),
-        };
+        let due = Some(state.due.map_or(time, |due| due.min(time)));
         (EagerState { mark: time, due }, Some((time, 65_535)))
     }
 
     fn fire(state: &EagerState) -> (EagerState, Option<(u32, u16)>) {
-        let mark = match state.due {
-            Some(due) => state.mark.max(due),
-            None => state.mark,
-        };
+        let mark = state.due.map_or(state.mark, |due| state.mark.max(due));
         (
             EagerState {
                 mark,
@@ -67,27 +61,14 @@ impl Computation for Eager {
     fn load(bytes: &[u8; 32]) -> EagerState {
         let [a, b, c, d, some, e, f, g, h, ..] = *bytes;
         let mark = u32::from_le_bytes([a, b, c, d]).min(4_000_000_000);
-        let due = if some == 0 {
-            None
-        } else {
-            Some(u32::from_le_bytes([e, f, g, h]).min(4_000_000_000))
-        };
+        let due = (some != 0).then_some(u32::from_le_bytes([e, f, g, h]).min(4_000_000_000));
         EagerState { mark, due }
     }
 
     fn store(state: &EagerState) -> [u8; 32] {
-        stored(state)
+        let [a, b, c, d] = state.mark.to_le_bytes();
+        let [e, f, g, h] = state.due.unwrap_or(0).to_le_bytes();
+        let some = u8::from(state.due.is_some());
+        padded([a, b, c, d, some, e, f, g, h, 0, 0, 0])
     }
-}
-
-fn stored(state: &EagerState) -> [u8; 32]
-    ensures { result ≡ eager_store state.now }
-{
-    let [a, b, c, d] = state.mark.to_le_bytes();
-    let (t, due) = match state.due {
-        Some(due) => (1, due),
-        None => (0, 0),
-    };
-    let [e, f, g, h] = due.to_le_bytes();
-    padded([a, b, c, d, t, e, f, g, h, 0, 0, 0])
 }

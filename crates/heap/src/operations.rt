@@ -12,9 +12,7 @@ pub fn build<T: Ord>(items: &mut [T])
     ensures shuffled { IsPermutation items.old items.new }
     ensures heaped { (o : IsTotalOrder T.Ord.cmp) → Heaped o items.new }
 {
-    let mut at = items.len() / 2;
-    while at > 0 {
-        at -= 1;
+    for at in (0..items.len() / 2).rev() {
         sift_down(items, at);
     }
 }

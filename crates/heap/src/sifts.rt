@@ -1,4 +1,5 @@
-// The two ways in which one element finds its place in a heap.
+// The two ways in which one element finds its place in a heap. Each follows a path in the tree, where each place is known
+// from the one before it and from what stands there, so that no range or iterator has the places.
 ghost use Rattle.std.specs.Prelude.{ℕ, ◌+◌, ◌*◌, ◌<◌, length};
 ghost use Rattle.std.specs.Cmp.{IsTotalOrder};
 ghost use Rattle.std.specs.List.Sorted.{IsPermutation};

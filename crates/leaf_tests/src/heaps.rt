@@ -11,18 +11,13 @@ fn fill(items: &mut [u32], random: &mut Random) {
     }
 }
 
+// Whether the heap's elements come out in this order: each that is taken out stands behind those that are left.
 fn comes_out_as(items: &mut [u32], sorted: &[u32]) -> bool {
-    let count = items.len();
-    if count != sorted.len() {
-        return false;
+    for last in (0..items.len()).rev() {
+        take_least(&mut items[..last + 1]);
     }
-    for taken in 0..count {
-        if items[0] != sorted[taken] {
-            return false;
-        }
-        take_least(&mut items[0..count - taken]);
-    }
-    true
+    items.reverse();
+    *items == *sorted
 }
 
 #[test]

@@ -12,7 +12,7 @@ use Rattle.names.specs.Held.{Meaning, same_taken, most_taken}
 use Rattle.names.specs.Changes.{add_answer, after_add, with_name, grown, Added}
 use Rattle.model.specs.Names.{named}
 use Rattle.names.specs.Fill.{with_names, AddedAll}
-use Rattle.names.proofs.Listing.{taken, same_is}
+use Rattle.names.proofs.Listing.{or_swap, taken, same_is}
 
 -- to put in what is held changes nothing
 pub with_held : (h : ℕ → Name → Bool) (s : ℕ) (n : Name) → h s n ≡ true → with_name h s n ≡ h
@@ -86,12 +86,7 @@ pub record Filling (m : Meaning) (s : ℕ) (ns : List Name) (i : ℕ) (after : M
 
 named_push : (ks : List Name) (n k : Name) → named (ks ++ n ∷ []) k ≡ (same_name n k || named ks k)
 named_push [] n k = refl
-named_push (x ∷ xs) n k = ap (λ b. same_name x k || b) (named_push xs n k) ∙ swap (same_name x k) (same_name n k) (named xs k)
-  where
-    swap : (a b c : Bool) → (a || (b || c)) ≡ (b || (a || c))
-    swap true true c = refl
-    swap true false c = refl
-    swap false b c = refl
+named_push (x ∷ xs) n k = ap (λ b. same_name x k || b) (named_push xs n k) ∙ or_swap (same_name x k) (same_name n k) (named xs k)
 
 one_more : (h : ℕ → Name → Bool) (s : ℕ) (ns : List Name) (i : ℕ) (n d : Name) → i < length ns → n ≡ get_or ns i d → with_name (with_names h s (take i ns)) s n ≡ with_names h s (take (i + 1) ns)
 one_more h s ns i n d l e = fun_ext (λ t. fun_ext (λ k. at t k))

@@ -10,9 +10,8 @@ pub fn add_all<N: NameSet>(set: &mut N, stop: u16, names: &[Name]) -> Answer
     ensures { AddedAll (N.meaning set.old) stop names.now result (N.meaning set.new) }
 {
     for name in names {
-        match set.add(Taken { stop, name: *name }) {
-            Answer::Full => return Answer::Full,
-            _ => {}
+        if let Answer::Full = set.add(Taken { stop, name: *name }) {
+            return Answer::Full;
         }
     }
     Answer::Done

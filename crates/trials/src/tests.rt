@@ -1,5 +1,5 @@
 // Stories, run through the code that serves every computation.
-use computations::{Computation, Conserving, Totalling, admit, consider, fire_due};
+use computations::{Computation, Conserving, Moment, Totalling, admit, consider, fire_due};
 use counter::Counter;
 use detector::Detector;
 use eager::Eager;
@@ -26,10 +26,13 @@ fn taken<C: Computation>(
     time: u32,
     amount: u16,
 ) -> Option<([u8; 32], Option<(u32, u16)>)> {
-    match consider::<C>(row, true, w, false, &asked(time, amount)) {
-        Ok((state, emission)) => Some((C::store(&state), emission)),
-        Err(_) => None,
-    }
+    let moment = Moment {
+        on: true,
+        w,
+        seen: false,
+    };
+    let (state, emission) = consider::<C>(row, moment, &asked(time, amount)).ok()?;
+    Some((C::store(&state), emission))
 }
 
 #[test]
@@ -99,6 +102,6 @@ fn the_first_reason_is_the_answer(rt: HostRuntime) {
         (true, 6, false, asked(7, 13), Answer::Over),
         (true, 6, false, asked(7, 12), Answer::Done),
     ] {
-        assert_eq!(rt; admit::<Eager>(&state, on, w, seen, &given), answer);
+        assert_eq!(rt; admit::<Eager>(&state, Moment { on, w, seen }, &given), answer);
     }
 }

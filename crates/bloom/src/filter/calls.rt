@@ -15,10 +15,7 @@ impl Filter {
     pub(crate) fn new(heap: Global) -> Result<Filter, AllocError>
         ensures { IfOk result (λ f. bits_in f ≡ (λ _. false)) }
     {
-        let mut words = Vec::with_capacity(heap, WORDS)?;
-        while words.len() < WORDS {
-            words.push_reserved(0);
-        }
+        let words = vec![in heap; 0; WORDS]?;
         Ok(Filter { words })
     }
 
@@ -41,19 +38,16 @@ impl Filter {
     pub(crate) fn has_all(&self, taken: Taken) -> bool
         ensures { result ≡ all_set (bits_in self.now) taken.stop taken.name }
     {
-        let [p, q, r, s] = bits_of(taken);
-        self.get(p) && self.get(q) && self.get(r) && self.get(s)
+        bits_of(taken).iter().all(|bit| self.get(*bit))
     }
 
     // Sets the four bits of the name.
     pub(crate) fn set_all(&mut self, taken: Taken)
         ensures { bits_in self.new ≡ with_four (bits_in self.old) taken.stop taken.name }
     {
-        let [p, q, r, s] = bits_of(taken);
-        self.set(p);
-        self.set(q);
-        self.set(r);
-        self.set(s);
+        for bit in bits_of(taken) {
+            self.set(bit);
+        }
     }
 
     // Clears every bit.

@@ -1,13 +1,16 @@
-use Rattle.std.proofs.Common.{◌≤◌, min, sym, arith}
+use Rattle.std.proofs.Common.{nat_le, sym, ap, ◌∙◌, rules}
+use Rattle.std.proofs.lemmas.Option.{IfSome_then}
 use Rattle.model.specs.Computation.{StateBytes}
-use Rattle.computations.proofs.Loaded.{sound_state, fired}
+use Rattle.computations.proofs.Loaded.{sound_state, attended}
 use Rattle.computations.proofs.judging.fire_due.Goals as goal
 
-pub returns-in-Some : goal.returns-in-Some
-returns-in-Some g c =
+pub returns : goal.returns
+returns g c =
     let m = g.C.Computation in
     let l = g.met.C.Computation.lawful in
     let b : StateBytes c.args.bytes.now = record { size = c.told-bytes; small = c.fits-bytes } in
     let s = sound_state m.operations m.sound l _ b _ c.load-state.ensures in
-    let k : c.in-Some.due ≤ min c.args.w 4000000000 = omega arith in
-    fired m.operations m.sound l _ b _ c.load-state.ensures _ _ (sym (c.in-Some.ensures s)) k _ c.fire.ensures
+    let d = c.in_ok-due.ensures s in
+    attended m.operations m.sound l _ b _ c.load-state.ensures c.args.w c.in_ok-due.due (sym d) c.then.result
+    (c.then.ensures.variant ∙ ap (nat_le c.in_ok-due.due) c.min.ensures)
+    (IfSome_then c.then.result c.then.ensures.some (λ x p. search (rules, p)))

@@ -1,6 +1,17 @@
-use Rattle.std.proofs.Common.{sum, ap, arith}
-use Rattle.computations.proofs.Places.{all_places}
+use Rattle.std.proofs.Common.{arith, rules}
+use borrow.Author.Tests.{tests}
+use Rattle.std.proofs.lemmas.Iterator.{YieldsList-from_slice}
+use Rattle.std.proofs.lemmas.Iterator.Adapters.{fits_from_length, at_most_from_yields_List}
 use Rattle.counter.proofs.counter.CounterConserving.held.Goals as goal
 
-pub returns : goal.returns
-returns c = λ h. omega (arith, ap sum (all_places 4 c.args.state.now.sums h.four))
+pub sum-requires-clause-fits : goal.sum-requires-clause-fits
+sum-requires-clause-fits c =
+    fits_from_length
+    _
+    _
+    4
+    _
+    (at_most_from_yields_List (YieldsList-from_slice c.args.state.now.sums (cc)) (search rules))
+    c.map.ensures.closure
+    (omega arith)
+    (λ x r q k. search (rules, tests))
