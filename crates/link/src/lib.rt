@@ -1,13 +1,14 @@
 // The radio link: the messages on their way, oldest first.
 #![tactic(auto)]
 
-ghost use Rattle.std.specs.Prelude.{◌≡◌, [], ◌∷◌, ◌++◌, length, if◌then◌else◌, nat_le, nat_lt};
-ghost use Rattle.std.specs.List.{remove, slice_get};
+ghost use Rattle.std.specs.Prelude.{◌≡◌, [], ◌∷◌, ◌++◌, length, slice_get, Ok, Err, if◌then◌else◌, nat_le, nat_lt};
+ghost use Rattle.std.specs.List.{remove};
 ghost use Rattle.model.specs.Limits.{most_messages};
+ghost use Rattle.model.specs.declared.answer.Answer.TheVariants.{LinkFull};
 ghost use Rattle.link.specs.Carried.{carried};
 
 use bounded::Bounded;
-use model::Message;
+use model::{Answer, Message};
 
 // The link holds so many messages and no more.
 const MOST: usize = 16;
@@ -22,7 +23,7 @@ impl Link {
         ensures { carried result ≡ [] }
     {
         Link {
-            messages: Bounded::new(Message::Acknowledged { stop: 0, serial: 0 }),
+            messages: Bounded::new(),
         }
     }
 
@@ -36,26 +37,21 @@ impl Link {
     pub fn at(&self, place: u8) -> Option<Message>
         ensures { result ≡ slice_get (carried self.now) place }
     {
-        let all = self.messages.as_slice();
-        let place = usize::from(place);
-        if place >= all.len() {
-            return None;
-        }
-        Some(all[place])
+        self.messages.as_slice().get(usize::from(place)).copied()
     }
 
-    // Puts a message at the end, and says whether there was room.
-    pub fn add(&mut self, message: Message) -> bool
-        ensures room { result ≡ nat_lt (length (carried self.old)) most_messages }
-        ensures messages { carried self.new ≡ (if result then carried self.old ++ message ∷ [] else carried self.old) }
+    // Puts a message at the end, if there is room.
+    pub fn add(&mut self, message: Message) -> Result<(), Answer>
+        ensures room { result ≡ (if nat_lt (length (carried self.old)) most_messages then Ok tt else Err LinkFull) }
+        ensures messages { carried self.new ≡ (if nat_lt (length (carried self.old)) most_messages then carried self.old ++ message ∷ [] else carried self.old) }
     {
-        self.messages.push(message)
+        self.messages.push(message).map_err(|_| Answer::LinkFull)
     }
 
-    // Takes the message at a place out, and says whether there was one.
-    pub fn take_out(&mut self, place: u8) -> bool
-        ensures there { result ≡ nat_lt place (length (carried self.old)) }
-        ensures messages { carried self.new ≡ (if result then remove (carried self.old) place else carried self.old) }
+    // Takes the message at a place out, if there is one.
+    pub fn take_out(&mut self, place: u8) -> Option<Message>
+        ensures message { result ≡ slice_get (carried self.old) place }
+        ensures messages { carried self.new ≡ (if nat_lt place (length (carried self.old)) then remove (carried self.old) place else carried self.old) }
     {
         self.messages.remove(usize::from(place))
     }

@@ -2,7 +2,6 @@
 #![tactic(auto)]
 
 ghost use Rattle.std.specs.Prelude.{◌≡◌, []};
-ghost use Rattle.law.specs.Node.{stands};
 ghost use Rattle.law.specs.Pair.{turned};
 ghost use Rattle.queue.specs.Lines.{lined, head_of, joined_by, left_by};
 
@@ -18,7 +17,7 @@ impl Queue {
         ensures { lined result ≡ [] }
     {
         Queue {
-            stops: Bounded::new(0),
+            stops: Bounded::new(),
         }
     }
 
@@ -32,41 +31,23 @@ impl Queue {
     pub fn join(&mut self, stop: u16)
         ensures { lined self.new ≡ joined_by stop (lined self.old) }
     {
-        if !self.has(stop) {
+        if !self.stops.as_slice().contains(&stop) {
             let _ = self.stops.push(stop);
         }
-    }
-
-    fn has(&self, stop: u16) -> bool
-        ensures { result ≡ stands stop (lined self.now) }
-    {
-        for other in self.stops.as_slice() {
-            if *other == stop {
-                return true;
-            }
-        }
-        false
     }
 
     // A stop leaves; the others keep their order.
     pub fn leave(&mut self, stop: u16)
         ensures { lined self.new ≡ left_by stop (lined self.old) }
     {
-        let mut rest = Bounded::new(0);
-        for other in self.stops.as_slice() {
-            if *other != stop {
-                let _ = rest.push(*other);
-            }
-        }
-        self.stops = rest;
+        self.stops.retain(|other| *other != stop);
     }
 
     // The head goes to the back.
     pub fn turn(&mut self)
         ensures { lined self.new ≡ turned (lined self.old) }
     {
-        if let Some(stop) = self.head() {
-            let _ = self.stops.remove(0);
+        if let Some(stop) = self.stops.remove(0) {
             let _ = self.stops.push(stop);
         }
     }

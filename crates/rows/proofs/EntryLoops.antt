@@ -4,6 +4,7 @@ use lib.Seq.{paste}
 use Rattle.std.specs.List.{range_with_len, flat_map}
 use Rattle.std.proofs.lemmas.List.{take_more, take_all, length-take-le, length-append, flat_map_more}
 use Rattle.std.proofs.lemmas.List.Edits.{paste-paste, paste_none}
+use Rattle.bounded.specs.Lists.{pushed}
 use Rattle.std.proofs.lemmas.List.FromFn.{map-range_with_len_more, length-map-range_with_len}
 
 pub times_more : (s i : ℕ) → s * (i + 1) ≡ s * i + s
@@ -36,11 +37,11 @@ module _ {X : Type 0} (f : X → List ℕ) (s : ℕ) (sized : (x : X) → length
       e ∙ (λ k. paste d at (flat_map f (take_all i xs a k)) (s * n k))
 
 -- the entries below i are read, and the next one is pushed where there is place for n
-pub read_more : {X : Type 0} (f : ℕ → X) (n i : ℕ) (ys zs : List X) (r : Bool) (x : X) → i < n → x ≡ f i → r ≡ ltb (length ys) n →
-    zs ≡ cond r (ys ++ x ∷ []) ys → ys ≡ map f (range_with_len 0 i) → zs ≡ map f (range_with_len 0 (i + 1))
-read_more f n i ys zs r x h is t z e =
+pub read_more : {X : Type 0} (f : ℕ → X) (n i : ℕ) (ys zs : List X) (x : X) → i < n → x ≡ f i → zs ≡ pushed n x ys →
+    ys ≡ map f (range_with_len 0 i) → zs ≡ map f (range_with_len 0 (i + 1))
+read_more f n i ys zs x h is z e =
     let l : length ys ≡ i = ap length e ∙ length-map-range_with_len f 0 i in
-    let b : r ≡ true = t ∙ lt-ltb (length ys) n (omega arith) in
+    let b : ltb (length ys) n ≡ true = lt-ltb (length ys) n (omega arith) in
     z ∙ ap (λ c. cond c (ys ++ x ∷ []) ys) b ∙ (λ k. e k ++ is k ∷ []) ∙ sym (map-range_with_len_more f 0 i i (omega arith))
 
 pub read_all : {X : Type 0} (f : ℕ → X) (i m : ℕ) (ys : List X) → i ≡ m → ys ≡ map f (range_with_len 0 i) → ys ≡ map f (range_with_len 0 m)

@@ -2,5 +2,4 @@ mod EntryLoops
 mod Encoding
 mod Places
 pub mod RowBytes
-mod Keeping
 pub mod WatermarkBytes

@@ -24,19 +24,6 @@ const PENDING_AT: usize = STATE_AT + 32;
 
 const NAMES_AT: usize = PENDING_AT + 4 * PENDING_SIZE;
 
-// What stands in a typed row where no entry does.
-pub(crate) const NO_PRODUCTION: Production = Production {
-    serial: 0,
-    time: 0,
-    amount: 0,
-};
-
-pub(crate) const NO_NAME: Name = Name {
-    sender: 0,
-    serial: 0,
-    time: 0,
-};
-
 fn pending_bytes(production: Production) -> [u8; 12]
     ensures fits { PendingFits production }
     ensures bytes { result ≡ pending_bytes production }
@@ -106,7 +93,7 @@ pub(crate) fn put_names(out: &mut [u8], names: &[Name])
 pub(crate) fn pending_in(bytes: &[u8; 512]) -> Bounded<Production, 4>
     ensures { listed result ≡ pending_in bytes.now }
 {
-    let mut list = Bounded::new(NO_PRODUCTION);
+    let mut list = Bounded::new();
     for i in 0..(bytes[4] as usize).min(4) {
         let _ = list.push(production_at(bytes, PENDING_AT + PENDING_SIZE * i));
     }
@@ -116,7 +103,7 @@ pub(crate) fn pending_in(bytes: &[u8; 512]) -> Bounded<Production, 4>
 pub(crate) fn names_in(bytes: &[u8; 512]) -> Bounded<Name, 40>
     ensures { listed result ≡ names_in bytes.now }
 {
-    let mut list = Bounded::new(NO_NAME);
+    let mut list = Bounded::new();
     for i in 0..(bytes[5] as usize).min(40) {
         let _ = list.push(name_at(bytes, NAMES_AT + NAME_SIZE * i));
     }

@@ -1,20 +1,22 @@
 -- Least times and sums, one production after another. Assumes nothing.
 use Rattle.std.proofs.Common.{◌≡◌, ℕ, ◌+◌, ◌<◌, min, List, [], ◌∷◌, ◌++◌, map, length, get_or, take, sym, refl, ap, ◌∙◌, add-zero, add_assoc, zero-add, arith}
 use Rattle.std.proofs.lemmas.List.{take_more}
+use Rattle.std.specs.List.{fold}
 use Rattle.model.specs.declared.record.Production.{Production}
 use Rattle.law.specs.Lists.{total}
 use Rattle.law.specs.Stops.{least_time}
 
-least_snoc : (ps : List Production) (p : Production) (b : ℕ) → least_time (ps ++ p ∷ []) b ≡ min p.time (least_time ps b)
-least_snoc [] p b = refl
-least_snoc (x ∷ ps) p b =
-    ap (λ (m : ℕ). min x.time m) (least_snoc ps p b) ∙ swap x.time p.time (least_time ps b)
+least_min : (ps : List Production) (t b : ℕ) → least_time ps (min t b) ≡ min t (least_time ps b)
+least_min [] t b = refl
+least_min (p ∷ ps) t b = ap (min p.time) (least_min ps t b) ∙ swap p.time t (least_time ps b)
   where
     swap : (x y z : ℕ) → min x (min y z) ≡ min y (min x z)
     swap x y z = omega arith
 
-pub least_more : (ps : List Production) (i : ℕ) (d : Production) (b : ℕ) → i < length ps → least_time (take (i + 1) ps) b ≡ min (get_or ps i d).time (least_time (take i ps) b)
-least_more ps i d b h = ap (λ (qs : List Production). least_time qs b) (take_more ps i d h) ∙ least_snoc (take i ps) (get_or ps i d) b
+-- the least time, in the order in which a fold meets the productions
+pub least_fold : (ps : List Production) (b : ℕ) → fold (λ a p. min p.time a) b ps ≡ least_time ps b
+least_fold [] b = refl
+least_fold (p ∷ ps) b = least_fold ps (min p.time b) ∙ least_min ps p.time b
 
 amounts : List Production → ℕ
 amounts ps = total (map (λ (p : Production). p.amount) ps)

@@ -14,16 +14,11 @@ use rows::StopRow;
 pub fn fire_row<C: Computation>(row: &mut StopRow, w: u32) -> Result<u32, Answer>
     ensures { Reached (on_bytes C.operations) w (row_of row.old) → MatchResult result (Fired (on_bytes C.operations) w (row_of row.old) (row_of row.new)) (Unfired (row_of row.old)) }
 {
-    match row.room_for_one() {
-        Answer::Done => {}
-        refusal => return Err(refusal),
-    }
-    let Some((state, emission)) = fire_due::<C>(row.state(), w) else {
-        return Err(Answer::Nothing);
-    };
+    row.room_for_one()?;
+    let (state, emission) = fire_due::<C>(row.state(), w).ok_or(Answer::Nothing)?;
     let floor = C::mark(&state).max(w);
     row.forget(floor);
-    let _ = emit(row, emission);
+    emit(row, emission)?;
     row.replace_state(C::store(&state));
     Ok(floor)
 }

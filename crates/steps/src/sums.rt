@@ -14,20 +14,15 @@ pub fn low_in<C: Computation>(row: &StopRow, low: u32) -> u32
     ensures { result ≡ least_due ((on_bytes C.operations).due (row_of row.now).state) (least_time (row_of row.now).pending low) }
 {
     let least = least_time(row.pending(), low);
-    match due_in::<C>(row.state()) {
-        Some(due) => due.min(least),
-        None => least,
-    }
+    due_in::<C>(row.state()).map_or(least, |due| due.min(least))
 }
 
 fn least_time(pending: &[Production], low: u32) -> u32
     ensures { result ≡ least_time pending.now low }
 {
-    let mut least = low;
-    for production in pending {
-        least = production.time.min(least);
-    }
-    least
+    pending
+        .iter()
+        .fold(low, |least, production| production.time.min(least))
 }
 
 // The amounts of the first four pending productions; a row has no more.
@@ -38,6 +33,7 @@ pub fn pending_amount(row: &StopRow) -> u32
     sum_of(&pending[..pending.len().min(4)])
 }
 
+// A loop, as what an iterator yields is not known to fit its type, and the sum has to.
 fn sum_of(pending: &[Production]) -> u32
     requires { length pending.now ≤ 4 }
     ensures { result ≡ total (map (λ p. p.amount) pending.now) }

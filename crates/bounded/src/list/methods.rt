@@ -1,26 +1,26 @@
 // A bounded list, as the list that it stands for.
-ghost use Rattle.std.specs.Prelude.{◌≡◌, ◌≤◌, [], ◌∷◌, ◌++◌, length, take, if◌then◌else◌, nat_lt};
+ghost use Rattle.std.specs.Prelude.{◌≡◌, ◌≤◌, [], ◌++◌, length, take, slice_get, if◌then◌else◌, nat_lt, Bool, filter};
 ghost use Rattle.std.specs.List.{remove};
-ghost use Rattle.bounded.specs.Lists.{listed};
+ghost use Rattle.std.specs.Fn.{FnReturnsAt};
+ghost use Rattle.bounded.specs.Lists.{listed, pushed, push_result};
 
 use super::Bounded;
+use arrayvec::{ArrayVec, CapacityError};
 
-impl<T: Copy, const N: usize> Bounded<T, N> {
-    // An empty list; the filler stands where no item does.
-    pub fn new(filler: T) -> Bounded<T, N>
+impl<T: Copy + Default, const N: usize> Bounded<T, N> {
+    pub fn new() -> Bounded<T, N>
         ensures { listed result ≡ [] }
     {
         Bounded {
-            items: [filler; N],
-            count: 0,
+            items: ArrayVec::new(),
         }
     }
 
     // The first N of these items.
-    pub fn copied(filler: T, items: &[T]) -> Bounded<T, N>
+    pub fn copied(items: &[T]) -> Bounded<T, N>
         ensures { listed result ≡ take N items.now }
     {
-        let mut list = Bounded::new(filler);
+        let mut list = Bounded::new();
         list.extend(items);
         list
     }
@@ -29,51 +29,52 @@ impl<T: Copy, const N: usize> Bounded<T, N> {
     pub fn extend(&mut self, more: &[T])
         ensures { listed self.new ≡ take N (listed self.old ++ more.now) }
     {
-        for item in more {
-            let _ = self.push(*item);
-        }
+        let room = self.items.remaining_capacity();
+        let _ = self
+            .items
+            .try_extend_from_slice(&more[..room.min(more.len())]);
     }
 
     pub fn as_slice(&self) -> &[T]
         ensures value { result.now ≡ listed self.now }
         ensures bound { length result.now ≤ N }
     {
-        let all = &self.items[..];
-        &all[0..self.count]
+        self.items.as_slice()
     }
 
-    // Adds an item at the end, and says whether there was room.
-    pub fn push(&mut self, item: T) -> bool
-        ensures room { result ≡ nat_lt (length (listed self.old)) N }
-        ensures items { listed self.new ≡ (if result then listed self.old ++ item ∷ [] else listed self.old) }
+    // Adds an item at the end, or gives it back if there is no room.
+    pub fn push(&mut self, item: T) -> Result<(), T>
+        ensures room { result ≡ push_result N item (listed self.old) }
+        ensures items { listed self.new ≡ pushed N item (listed self.old) }
     {
-        if self.count >= N {
-            return false;
-        }
-        self.items[self.count] = item;
-        self.count += 1;
-        true
+        self.items.try_push(item).map_err(CapacityError::element)
     }
 
-    // Takes out the item at a place, and says whether there was one; those behind it move up.
-    pub fn remove(&mut self, place: usize) -> bool
-        ensures there { result ≡ nat_lt place (length (listed self.old)) }
-        ensures items { listed self.new ≡ (if result then remove (listed self.old) place else listed self.old) }
+    // Takes out the item at a place, if there is one; those behind it move up.
+    pub fn remove(&mut self, place: usize) -> Option<T>
+        ensures item { result ≡ slice_get (listed self.old) place }
+        ensures items { listed self.new ≡ (if nat_lt place (length (listed self.old)) then remove (listed self.old) place else listed self.old) }
     {
-        let all = self.as_slice();
-        if place >= all.len() {
-            return false;
-        }
-        let mut rest = Bounded::new(all[place]);
-        rest.extend(&all[0..place]);
-        rest.extend(&all[place + 1..all.len()]);
-        *self = rest;
-        true
+        self.items.pop_at(place)
+    }
+
+    // Keeps the items that pass a test, in their order.
+    pub fn retain<F: Fn(&T) -> bool>(&mut self, keep: F)
+        requires { F.IsAlwaysCallable keep }
+        ensures { (test : T → Bool) → ((x : T) (b : Bool) → FnReturnsAt F.Fn keep x b → b ≡ test x) → listed self.new ≡ filter test (listed self.old) }
+    {
+        self.items.retain(
+            |item: &mut T| -> bool
+                requires { F.IsAlwaysCallable keep }
+                ensures says { FnReturnsAt F.Fn keep item.old result }
+                ensures same { item.new ≡ item.old }
+            { keep(item) },
+        );
     }
 
     pub fn clear(&mut self)
         ensures { listed self.new ≡ [] }
     {
-        self.count = 0;
+        self.items.clear();
     }
 }

@@ -74,9 +74,6 @@ impl StopRow {
         ensures row { is_some result ≡ true → (row : Row) × RowFits row × (encoded row ≡ bytes.now) }
         ensures counts { (row : Row) → RowFits row → encoded row ≡ bytes.now → result ≡ Some (staying floor row) }
     {
-        match StopRow::decode(bytes) {
-            Some(row) => Some(row.staying(floor)),
-            None => None,
-        }
+        StopRow::decode(bytes).map(|row| row.staying(floor))
     }
 }

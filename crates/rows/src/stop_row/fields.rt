@@ -7,7 +7,6 @@ ghost use Rattle.rows.specs.Layout.{encoded};
 ghost use Rattle.rows.specs.Meaning.{row_of};
 
 use super::StopRow;
-use crate::entries::{NO_NAME, NO_PRODUCTION};
 use bounded::Bounded;
 use model::{Name, Production};
 
@@ -20,8 +19,8 @@ impl StopRow {
         StopRow {
             next: 0,
             state: [0; 32],
-            pending: Bounded::new(NO_PRODUCTION),
-            names: Bounded::new(NO_NAME),
+            pending: Bounded::new(),
+            names: Bounded::new(),
         }
     }
 

@@ -7,8 +7,8 @@ use Rattle.rows.proofs.entries.names_in.Goals as goal
 
 pub loop-i-preserved : goal.loop-i-preserved
 loop-i-preserved c =
-    read_more (λ i. name_in c.args.bytes.now (names_at + name_size * i)) 40 c.loop-i.i _ _ c.push.result c.name_at.result (omega arith)
-    c.name_at.ensures c.push.ensures.room c.push.ensures.items c.loop-i.invariant
+    read_more (λ i. name_in c.args.bytes.now (names_at + name_size * i)) 40 c.loop-i.i _ _ c.name_at.result (omega arith)
+    c.name_at.ensures c.push.ensures.items c.loop-i.invariant
 
 pub returns : goal.returns
 unfolding names_in

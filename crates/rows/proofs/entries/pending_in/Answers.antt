@@ -7,8 +7,8 @@ use Rattle.rows.proofs.entries.pending_in.Goals as goal
 
 pub loop-i-preserved : goal.loop-i-preserved
 loop-i-preserved c =
-    read_more (λ i. production_in c.args.bytes.now (pending_at + pending_size * i)) 4 c.loop-i.i _ _ c.push.result c.production_at.result (omega arith)
-    c.production_at.ensures c.push.ensures.room c.push.ensures.items c.loop-i.invariant
+    read_more (λ i. production_in c.args.bytes.now (pending_at + pending_size * i)) 4 c.loop-i.i _ _ c.production_at.result (omega arith)
+    c.production_at.ensures c.push.ensures.items c.loop-i.invariant
 
 pub returns : goal.returns
 unfolding pending_in

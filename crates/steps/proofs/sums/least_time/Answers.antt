@@ -1,15 +1,10 @@
-use Rattle.std.proofs.Common.{ℕ, min, List, get_or, sym, ap, ◌∙◌}
-use Rattle.std.proofs.lemmas.List.{take_all}
-use Rattle.model.specs.declared.record.Production.{Production}
-use Rattle.law.specs.Stops.{least_time}
-use Rattle.steps.proofs.Adding.{least_more}
+use Rattle.std.proofs.Common.{◌∙◌, min, rules}
+use Rattle.std.proofs.lemmas.Iterator.{YieldsList-from_slice}
+use Rattle.std.proofs.lemmas.Iterator.Consumers.{fold_from_yields_List}
+use Rattle.steps.proofs.Adding.{least_fold}
 use Rattle.steps.proofs.sums.least_time.Goals as goal
-
-pub loop-production-preserved : goal.loop-production-preserved
-loop-production-preserved c =
-    let more = least_more c.args.pending.now c.loop-production.production-index (record { serial = 0; time = 0; amount = 0 }) c.args.low c.loop-production-test.true in
-    c.min-least.ensures ∙ ap (λ (m : ℕ). min (get_or c.args.pending.now c.loop-production.production-index (record { serial = 0; time = 0; amount = 0 })).time m) c.loop-production.invariant ∙ sym more
 
 pub returns : goal.returns
 returns c =
-    c.loop-production.invariant ∙ ap (λ (ps : List Production). least_time ps c.args.low) (take_all c.loop-production.production-index c.args.pending.now c.loop-production-test.false)
+    fold_from_yields_List _ (λ a p. min p.time a) c.args.low c.fold.result c.fold.ensures.ran (YieldsList-from_slice c.args.pending.now cc) (λ a x b q k. search rules)
+    ∙ least_fold c.args.pending.now c.args.low
