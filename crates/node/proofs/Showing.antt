@@ -65,19 +65,21 @@ module _ {S N C T : Type 0} (store : Stores S) (set : Sets N) (computation : Com
         : (floor : Option ℕ) (come : Option Name)
         → new.names ≡ renamed floor come (n.row s).names
         → Fresh come (n.row s).names
-        → RowCommitted (kit_of store set computation) free (store.model v.store) (store.model v'.store) s new Done
+        → (a : Answer)
+        → RowCommitted (kit_of store set computation) free (store.model v.store) (store.model v'.store) s new a
+        → a ≡ Done
         → Renamed (set.meaning v.names) (set.meaning v'.names) s floor come
         → due_at v'.timers ≡ changed s ((on_bytes computation.operations).due new.state) (due_at v.timers)
         → shown_at v'.panel ≡ changed s (oldest new.pending) (shown_at v.panel)
         → (Line (lined v.queue) → s < stops → lined v'.queue ≡ requeued s new.pending (lined v.queue))
         → v'.watermark ≡ v.watermark
-        → Told (Shows store set computation v') (λ a. a) Done (commit_row (kit_of store set computation) free s new n)
+        → Told (Shows store set computation v') (λ b. b) a (commit_row (kit_of store set computation) free s new n)
     unfolding kit c
-    committed_done floor come names-are fresh did renames dues shown queues same_w =
+    committed_done floor come names-are fresh a did is renames dues shown queues same_w =
         let f = shows.follows on in
         let answers = did.answer n shows.kept on below in
         let kept-after = did.kept n shows.kept on below in
-        let lasts = done_lasts store.cost (free.point s) n.power Done answers refl in
+        let lasts = done_lasts store.cost (free.point s) n.power a answers is in
         let new_fits : RowFits new = subst RowFits (new_stands kit free within c s new n lasts) (kept-after.row s below).fits in
         let few : Few (with_names s (renamed floor come (n.row s).names) (λ q. (n.row q).names)) = few_with s new n.row (renamed floor come (n.row s).names) new_fits (λ q h. (shows.kept.row q h).fits) names-are in
         let holds = subst (λ (ns : List Name). Holds (set.meaning v'.names) (with_names s ns (λ q. (n.row q).names))) (sym names-are) (renames.holds (λ q. (n.row q).names) f.names below fresh few) in
@@ -116,12 +118,14 @@ module _ {S N C T : Type 0} (store : Stores S) (set : Sets N) (computation : Com
   module _ (v : Node S N C) (s' : S) (t : ℕ) (free : Free) (n : LawNode) (shows : Shows store set computation v n) (on : n.power.on ≡ true) (small : t ≤ last_time) where
     -- likewise of the watermark
     pub advanced_done
-        : WatermarkCommitted (kit_of store set computation) free (store.model v.store) (store.model s') t Done
-        → Told (Shows store set computation (record { store = s'; names = v.names; timers = v.timers; panel = v.panel; queue = v.queue; watermark = t; computation = v.computation })) (λ a. a) Done (commit_watermark (kit_of store set computation) free t n)
+        : (a : Answer)
+        → WatermarkCommitted (kit_of store set computation) free (store.model v.store) (store.model s') t a
+        → a ≡ Done
+        → Told (Shows store set computation (record { store = s'; names = v.names; timers = v.timers; panel = v.panel; queue = v.queue; watermark = t; computation = v.computation })) (λ b. b) a (commit_watermark (kit_of store set computation) free t n)
     unfolding kit c
-    advanced_done did =
+    advanced_done a did is =
         let answers = did.answer n shows.kept on in
-        let lasts = done_lasts store.cost (free.point stops) n.power Done answers refl in
+        let lasts = done_lasts store.cost (free.point stops) n.power a answers is in
         record {
           answer = answers;
           shows = record {

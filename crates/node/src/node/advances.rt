@@ -22,12 +22,10 @@ impl<S: Store, N: NameSet, C: Computation> Node<S, N, C> {
         if time <= self.watermark {
             return Answer::Nothing;
         }
-        match commit_watermark(&mut self.store, time) {
-            Answer::Done => {
-                self.watermark = time;
-                Answer::Done
-            }
-            refused => refused,
+        let answer = commit_watermark(&mut self.store, time);
+        if answer == Answer::Done {
+            self.watermark = time;
         }
+        answer
     }
 }

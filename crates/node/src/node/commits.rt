@@ -42,15 +42,13 @@ impl<S: Store, N: NameSet, C: Computation> Node<S, N, C> {
     ) -> Answer
         ensures { Commits S.Store N.NameSet C.Computation self.old self.new stop (row_of row.now) floor come result }
     {
-        match commit_row(&mut self.store, stop, row) {
-            Answer::Done => {
-                rename(&mut self.names, stop, floor, come);
-                self.timers.set(stop, due_in::<C>(row.state()));
-                self.panel.set(stop, row.oldest());
-                requeue(&mut self.queue, stop, row);
-                Answer::Done
-            }
-            cut => cut,
+        let answer = commit_row(&mut self.store, stop, row);
+        if answer == Answer::Done {
+            rename(&mut self.names, stop, floor, come);
+            self.timers.set(stop, due_in::<C>(row.state()));
+            self.panel.set(stop, row.oldest());
+            requeue(&mut self.queue, stop, row);
         }
+        answer
     }
 }

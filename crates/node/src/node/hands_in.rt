@@ -5,7 +5,7 @@ ghost use Rattle.law.specs.Node.{hand_in};
 ghost use Rattle.node.specs.Promises.{Answers, AnswersIf, judged_first};
 
 use super::{Damaged, LAST_TIME, Node};
-use computations::Computation;
+use computations::{Computation, Moment};
 use model::{Answer, Record};
 use names::NameSet;
 use steps::take_record;
@@ -41,7 +41,12 @@ impl<S: Store, N: NameSet, C: Computation> Node<S, N, C> {
         let mut row = self.row(given.stop)?;
         let seen = self.has_seen(given.stop, given.name);
         let before = row.names().len();
-        match take_record::<C>(&mut row, true, self.watermark, seen, given) {
+        let moment = Moment {
+            on: true,
+            w: self.watermark,
+            seen,
+        };
+        match take_record::<C>(&mut row, moment, given) {
             Ok(floor) => {
                 let fell = fallen(before, row.names().len(), floor);
                 Ok(self.commit(given.stop, &row, fell, Some(given.name)))

@@ -39,13 +39,11 @@ impl<S: Store, N: NameSet, C: Computation> Node<S, N, C> {
     pub fn restart(&mut self, supply: Supply<'_>) -> Result<Answer, Damaged>
         ensures { Wakes S.Store N.NameSet C.Computation self.old self.new supply.entry.left result (λ free n. restart free supply.entry.left supply.entry.tear supply.entry.junk.now n) }
     {
-        match self.store.restart(supply) {
-            Answer::Done => {
-                self.remake()?;
-                Ok(Answer::Done)
-            }
-            other => Ok(other),
+        let answer = self.store.restart(supply);
+        if answer == Answer::Done {
+            self.remake()?;
         }
+        Ok(answer)
     }
 
     // Makes all that is kept beside the rows again.
