@@ -12,7 +12,8 @@ use Rattle.stores.specs.Rows.{rows_by}
 use Rattle.stores.proofs.Failing.{torn, torn_at, torn_zero}
 use Rattle.stores.proofs.Writing.{cut_first, cut_second, done_both, answer_first, answer_second, answer_done}
 use Rattle.journal.specs.Layout.{row_count, page_count, Sound, Journals, lasting, begun, begun_answer, meaning, commit_cut_at, cut_page, owed_by, owed_after_writes, home, mark, mark_page, row_in}
-use Rattle.journal.proofs.Marking.{mark_is, marked, settled, rows_newer, rows_kept, sound_by}
+use Rattle.journal.specs.Laws.{mark_is, sound_by}
+use Rattle.journal.proofs.Marking.{marked, settled, rows_newer, rows_kept}
 
 -- a commit that was not refused: its answer a, and the card n after it
 pub record Went (m n : Medium) (r : ℕ) (b : List ℕ) (a : Answer) : Type 0 where

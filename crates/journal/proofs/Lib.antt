@@ -1,5 +1,4 @@
 pub mod Marking
 pub mod Committing
 pub mod Restarting
-pub mod Formatting
 pub mod Promising

@@ -1,23 +1,9 @@
 -- What the rows are while page 1 stands for a row and while it does not.
-use Rattle.std.proofs.Common.{◌≡◌, ℕ, ◌+◌, ◌<◌, ◌≤◌, true, ◌≢◌, List, [], length, get_or, set, replicate, sym, ap, ◌∙◌, ⊎_elim, arith}
-use Rattle.std.proofs.lemmas.List.{get_or-set_same, set-get_or, get_or-replicate, length-replicate}
+use Rattle.std.proofs.Common.{◌≡◌, ℕ, ◌+◌, ◌<◌, ◌≢◌, List, [], get_or, set, sym, ap, ◌∙◌, ⊎_elim, arith}
 use Rattle.std.proofs.lemmas.Bool.{cases_eq, cond-true, cond-false, eq-eqb, ne_eqb}
-use Rattle.model.specs.Limits.{page_bytes}
-use Rattle.stores.specs.Cards.{Medium, zero_page}
 use Rattle.stores.specs.Rows.{rows_by}
 use Rattle.stores.proofs.Rows.{rows_same, rows_new}
-use Rattle.journal.specs.Layout.{row_count, page_count, Sound, home, mark, mark_page, row_in}
-
-pub mark_at : (v : ℕ) → get_or (mark_page v) 0 0 ≡ v
-unfolding mark_page
-mark_at v = get_or-set_same (replicate page_bytes 0) 0 v 0 (omega (arith, length-replicate {A = ℕ} page_bytes 0))
-
-pub no_mark : mark_page 0 ≡ zero_page
-unfolding mark_page
-no_mark = ap (set (replicate page_bytes 0) 0) (sym (get_or-replicate {A = ℕ} page_bytes 0 0 0 (omega arith))) ∙ set-get_or (replicate page_bytes 0) 0 0
-
-pub mark_is : (pages : List (List ℕ)) (v : ℕ) → get_or pages 0 [] ≡ mark_page v → mark pages ≡ v
-mark_is pages v e = ap (λ (p : List ℕ). get_or p 0 0) e ∙ mark_at v
+use Rattle.journal.specs.Layout.{row_count, home, mark, row_in}
 
 -- pages of which row r is b, and all other rows are where they are in the old pages
 pub record Holds (old pages : List (List ℕ)) (r : ℕ) (b : List ℕ) : Type 0 where
@@ -59,9 +45,3 @@ rows_alike old p q r b f g = rows_same (row_in p) (row_in q) row_count
 pub rows_kept : (old pages : List (List ℕ)) → mark old ≡ 0 → mark pages ≡ 0 → ((k : ℕ) → get_or pages (home k) [] ≡ get_or old (home k) []) →
     rows_by (row_in pages) row_count ≡ rows_by (row_in old) row_count
 rows_kept old pages e f h = rows_same (row_in old) (row_in pages) row_count (λ k l. at_home pages k f ∙ h k ∙ sym (at_home old k e))
-
--- a card is sound by its page 0
-pub sound_by : (n : Medium) (v : ℕ) → length n.pages ≡ page_count → get_or n.pages 0 [] ≡ mark_page v → v ≤ row_count → (n.on ≡ true → v ≡ 0) → Sound n
-sound_by n v sized first known rest =
-    let e = mark_is n.pages v first in
-    record { sized = sized; first = first ∙ ap mark_page (sym e); known = omega arith; settled = λ on. e ∙ rest on }

@@ -1,43 +1,44 @@
--- From what a commit or a restart did to the card to what the store promises of it.
-use Rattle.std.proofs.Common.{◌≡◌, ℕ, ◌<◌, true, false, List, length, sym, ◌∙◌}
-use Rattle.std.proofs.lemmas.Bool.{cond-true, cond-false, and_from, and_left, and_right}
-use Rattle.model.specs.Limits.{page_bytes}
-use Rattle.model.specs.Store.{row_fits, restart_fits}
+-- From what a commit or a restart did to the card to what the layout promises of it.
+use Rattle.std.proofs.Common.{◌≡◌, ℕ, ◌<◌, ◌≤◌, true, List, length, sym, ap, ◌∙◌, subst}
+use Rattle.std.proofs.Props.{props}
+use Rattle.std.proofs.Math.Logic.{∥∥₁_elim}
+use Rattle.model.specs.Store.{Stored}
 use Rattle.model.specs.declared.answer.Answer.{Answer}
-use Rattle.stores.specs.Cards.{Medium}
-use Rattle.stores.specs.Promises.{Commits, Restarts}
-use Rattle.stores.proofs.Judging.{commits_on, restarts_on, row_fits_lem}
-use Rattle.stores.proofs.Rows.{same_stored, length-rows}
-use Rattle.journal.specs.Layout.{row_count, meaning, row_in, commit_cut_at, restart_cut_at, owed_after_commit, owed_after_restart}
-use Rattle.journal.proofs.Committing.{Went}
-use Rattle.journal.proofs.Restarting.{Woke}
+use Rattle.stores.specs.Cards.{Medium, turned_on}
+use Rattle.stores.specs.Layouts.{Writes, Wakes}
+use Rattle.stores.proofs.Rows.{same_stored}
+use Rattle.journal.specs.Layout.{row_count, page_count, Sound, Journals, Mends, mark, meaning, commit_cut_at, restart_cut_at, owed_after_writes, owed_after_mending}
+use Rattle.journal.proofs.Committing.{went}
+use Rattle.journal.proofs.Restarting.{woke}
 
-pub fits : (m : Medium) (row : ℕ) (bytes : List ℕ) → row < row_count → length bytes ≡ page_bytes → row_fits (meaning m) row bytes ≡ true
-fits m row bytes = row_fits_lem (meaning m) row_count row bytes (length-rows (row_in m.pages) row_count)
+-- there is one proof at most that a card is sound
+pub known : {m : Medium} → ∥ Sound m ∥₁ → Sound m
+known t = ∥∥₁_elim t (hlevel props) (λ s. s)
 
-module _ (m : Medium) (row : ℕ) (bytes : List ℕ) where
-  pub owes_out : row_fits (meaning m) row bytes ≡ false → (meaning m).power.owed ≡ owed_after_commit (meaning m) row bytes
-  owes_out out = sym (cond-false _ _ _ (and_left _ _ out))
+owing : (s : Stored) (o : ℕ) → s.power.owed ≡ o → s ≡ record { rows = s.rows; power = record { on = s.power.on; left = s.power.left; tear = s.power.tear; owed = o } }
+owing s o e = ap (λ x. record { rows = s.rows; power = record { on = s.power.on; left = s.power.left; tear = s.power.tear; owed = x } }) e
 
-  pub owes_off : m.on ≡ false → (meaning m).power.owed ≡ owed_after_commit (meaning m) row bytes
-  owes_off off = sym (cond-false _ _ _ (and_right (row_fits (meaning m) row bytes) _ off))
+pub writes_went : (m n : Medium) (row : ℕ) (bytes : List ℕ) (a : Answer) → ∥ Sound m ∥₁ → row < row_count → m.on ≡ true → Journals m n row bytes a →
+    ∥ Sound n ∥₁ × Writes 4 2 (owed_after_writes m.tear m.left) (commit_cut_at m row) (meaning m) (meaning n) row bytes a
+writes_went m n row bytes a s l on did =
+    let w = went m row bytes (known s) l on n a did in (
+      ∣ w.sound ∣₁,
+      record {
+        answer = w.answer;
+        means = owing (meaning n) _ w.owed ∙ same_stored _ _ _ _ _ _ _ _ _ w.rows w.on w.left w.tear;
+      },
+    )
 
-  module _ (n : Medium) (a : Answer) (l : row < row_count) (w : length bytes ≡ page_bytes) (on : m.on ≡ true) (went : Went m n row bytes a) where
-    pub commits_went : Commits 4 2 (commit_cut_at m row) (meaning m) (meaning n) row bytes a
-    commits_went = commits_on 4 2 (commit_cut_at m row) (meaning m) row bytes (meaning n) a (fits m row bytes l w) on went.answer
-        (same_stored _ _ _ _ _ _ _ _ (meaning n).power.owed went.rows went.on went.left went.tear)
-
-    pub owes_went : (meaning n).power.owed ≡ owed_after_commit (meaning m) row bytes
-    owes_went = went.owed ∙ sym (cond-true _ _ _ (and_from _ _ (fits m row bytes l w) on))
-
-module _ (m : Medium) (left tear : ℕ) (junk : List ℕ) where
-  pub owes_still : restart_fits tear junk ≡ false → (meaning m).power.owed ≡ owed_after_restart (meaning m) left tear junk
-  owes_still out = sym (cond-false _ _ _ out)
-
-  module _ (n : Medium) (a : Answer) (w : restart_fits tear junk ≡ true) (woke : Woke m n left tear a) where
-    pub restarts_woke : Restarts (restart_cut_at m left) (meaning m) (meaning n) left tear junk a
-    restarts_woke = restarts_on (restart_cut_at m left) (meaning m) left tear junk (meaning n) a w woke.answer
-        (same_stored _ _ _ _ _ _ _ _ (meaning n).power.owed woke.rows woke.on woke.left woke.tear)
-
-    pub owes_woke : (meaning n).power.owed ≡ owed_after_restart (meaning m) left tear junk
-    owes_woke = woke.owed ∙ sym (cond-true _ _ _ w)
+pub wakes_woke : (m k n : Medium) (left tear : ℕ) (junk : List ℕ) (a : Answer) → ∥ Sound m ∥₁ → k ≡ turned_on m left tear junk →
+    (length k.pages ≡ page_count → mark k.pages ≤ row_count → Mends k n a) →
+    ∥ Sound n ∥₁ × Wakes (owed_after_mending (meaning m).power.owed tear left) (restart_cut_at m left) (meaning m) (meaning n) left tear a
+wakes_woke m k n left tear junk a truncated on mends =
+    let s = known truncated in
+    let did : Mends k n a = mends (ap (λ (x : Medium). length x.pages) on ∙ s.sized) (subst (λ (x : Medium). mark x.pages ≤ row_count) (sym on) s.known) in
+    let w = woke m k n left tear junk a on did.card did.answer s in (
+      ∣ w.sound ∣₁,
+      record {
+        answer = w.answer;
+        means = owing (meaning n) _ w.owed ∙ same_stored _ _ _ _ _ _ _ _ _ w.rows w.on w.left w.tear;
+      },
+    )

@@ -9,7 +9,8 @@ use Rattle.stores.specs.Cards.{Medium, cut_at, landed, turned_on, written_both, 
 use Rattle.stores.proofs.Failing.{torn, torn_at, torn_zero}
 use Rattle.stores.proofs.Writing.{cut_first, cut_second, done_both, answer_first, answer_second, answer_done}
 use Rattle.journal.specs.Layout.{row_count, page_count, Sound, meaning, restart_cut_at, owed_by, owed_after_mending, home, mark, mark_page, mended, mend_answer}
-use Rattle.journal.proofs.Marking.{Holds, mark_is, marked, settled, rows_alike, sound_by}
+use Rattle.journal.specs.Laws.{mark_is, sound_by}
+use Rattle.journal.proofs.Marking.{Holds, marked, settled, rows_alike}
 use Rattle.journal.proofs.Committing.{owed_marked}
 
 -- a restart that was not refused: its answer a, and the card n after it

@@ -1,12 +1,13 @@
 -- The journal store: a row's page stands in the journal, page 1, until it is at home. Assumes nothing.
-use Rattle.std.specs.Prelude.{◌≡◌, ℕ, ◌+◌, ◌-◌, ◌≤◌, Bool, true, false, cond, ◌&&◌, List, [], length, replicate, ◌==◌, nat_le, slice_index, slice_index_or, slice_set}
+use Rattle.std.specs.Prelude.{◌≡◌, ℕ, ◌+◌, ◌-◌, ◌≤◌, Bool, true, cond, List, [], length, replicate, ◌==◌, nat_le, slice_index, slice_index_or, slice_set}
 use Rattle.model.specs.Answers.{answer_number}
 use Rattle.model.specs.Limits.{page_bytes}
-use Rattle.model.specs.Store.{Stored, row_fits, restart_fits}
+use Rattle.model.specs.Store.{Stored}
 use Rattle.model.specs.declared.answer.Answer.{Answer}
 use Rattle.model.specs.declared.answer.Answer.TheVariants.{Done}
 use Rattle.model.specs.declared.answer.CutPoint.{CutPoint}
-use Rattle.stores.specs.Cards.{Medium, cut_at, zero_page, blank_medium, written_both, write_both_answer}
+use Rattle.stores.specs.Cards.{Medium, cut_at, written_both, write_both_answer}
+use Rattle.stores.specs.Layouts.{Formatted as FormattedOn}
 use Rattle.stores.specs.Rows.{rows_by}
 
 abbrev pub row_count : ℕ
@@ -57,15 +58,9 @@ abbrev pub owed_after_writes : ℕ → ℕ → ℕ
 owed_after_writes tear left =
     cond (nat_le 4 left) 0 (cond (left == 0) 0 (cond (left == 1) (cond (tear == 1) 2 0) (cond (left == 2) 2 (cond (tear == 1) 0 2))))
 
-abbrev pub owed_after_commit : Stored → ℕ → List ℕ → ℕ
-owed_after_commit s row bytes = cond (row_fits s row bytes && s.power.on) (owed_after_writes s.power.tear s.power.left) s.power.owed
-
 -- what is owed after a restart that owed two writes or none
 abbrev pub owed_after_mending : ℕ → ℕ → ℕ → ℕ
 owed_after_mending owed tear n = cond (nat_le owed n) 0 (cond (n == 0) 2 (cond (tear == 1) 0 2))
-
-abbrev pub owed_after_restart : Stored → ℕ → ℕ → List ℕ → ℕ
-owed_after_restart s n tear junk = cond (restart_fits tear junk) (owed_after_mending s.power.owed tear n) s.power.owed
 
 -- what a commit writes: page 1 and the mark, and then, if power lasts, the home and no mark
 abbrev pub begun : Medium → ℕ → List ℕ → Medium
@@ -106,7 +101,5 @@ pub record Sound (m : Medium) : Type 0 where
   pub settled : m.on ≡ true → mark m.pages ≡ 0
 
 -- a store as formatting leaves it
-pub record Formatted (node : ℕ) (m : Medium) : Type 0 where
-  pub blank : m ≡ blank_medium node page_count
-  pub means : meaning m ≡ record { rows = replicate row_count zero_page; power = record { on = false; left = 0; tear = 0; owed = 0 } }
-  pub sound : Sound m
+abbrev pub Formatted : ℕ → Medium → Type 0
+Formatted node m = FormattedOn meaning Sound row_count page_count node m

@@ -11,7 +11,7 @@ use cache::Cached;
 use journal::Journal;
 use model::Answer;
 use shadow::Shadow;
-use stores::{Card, Store};
+use stores::{Card, Layout, OnCard, Store};
 use trial::{commit, restart, try_out};
 
 // What a trial shows at every left and tear.
@@ -43,16 +43,19 @@ fn tables<S: Store>(rt: &impl Print, name: &str, store: &mut S, cut: u32) -> any
     )
 }
 
-fn journal(rt: &HostRuntime) -> anyhow::Result<Journal> {
-    Journal::format(Card::blank(rt.alloc(), 0, 35)?).map_err(|_| anyhow!(
-        "the card has not the journal store's size"
+// A store on a new card of so many pages.
+fn store<L: Layout>(rt: &HostRuntime, node: u8, pages: u8) -> anyhow::Result<OnCard<L>> {
+    OnCard::format(Card::blank(rt.alloc(), node, pages)?).map_err(|_| anyhow!(
+        "the card has not the store's size"
     ))
 }
 
+fn journal(rt: &HostRuntime) -> anyhow::Result<Journal> {
+    store(rt, 0, 35)
+}
+
 fn shadow(rt: &HostRuntime) -> anyhow::Result<Shadow> {
-    Shadow::format(Card::blank(rt.alloc(), 1, 67)?).map_err(|_| anyhow!(
-        "the card has not the shadow store's size"
-    ))
+    store(rt, 1, 67)
 }
 
 fn main(rt: HostRuntime) -> anyhow::Result<()> {

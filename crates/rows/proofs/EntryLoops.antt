@@ -1,9 +1,9 @@
 -- Entries of one size, one after another in a row's bytes: written and read in a loop.
-use Rattle.std.proofs.Common.{◌≡◌, ℕ, ◌+◌, ◌*◌, ◌<◌, ◌≤◌, Bool, true, cond, ltb, List, [], ◌∷◌, ◌++◌, map, length, get_or, take, sym, refl, ap, ◌∙◌, add_comm, mul-zero, mul-one, mul-suc, mul-add, arith, lt-ltb}
+use Rattle.std.proofs.Common.{◌≡◌, ℕ, ◌+◌, ◌*◌, ◌<◌, ◌≤◌, true, cond, ltb, List, [], ◌∷◌, ◌++◌, map, length, get_or, take, sym, refl, ap, ◌∙◌, add_comm, mul-zero, mul-one, mul-suc, mul-add, arith, lt-ltb}
 use lib.Seq.{paste}
 use Rattle.std.specs.List.{range_with_len, flat_map}
-use Rattle.std.proofs.lemmas.List.{take_more, take_all, length-take-le, length-append, flat_map_more}
-use Rattle.std.proofs.lemmas.List.Edits.{paste-paste, paste_none}
+use Rattle.std.proofs.lemmas.List.{take_more, length-take-le, length-append, flat_map_more}
+use Rattle.std.proofs.lemmas.List.Edits.{paste-paste}
 use Rattle.bounded.specs.Lists.{pushed}
 use Rattle.std.proofs.lemmas.List.FromFn.{map-range_with_len_more, length-map-range_with_len}
 
@@ -27,15 +27,6 @@ module _ {X : Type 0} (f : X → List ℕ) (s : ℕ) (sized : (x : X) → length
       o ∙ ap (λ y. paste y (at + s * i) bs (length bs)) w ∙ paste-paste d at (flat_map f (take i xs)) bs (s * i) (length bs) (sym l) refl fits
       ∙ (λ k. paste d at (flat_map f (take i xs) ++ e k) (s * i + (ap length e ∙ sized (get_or xs i z)) k)) ∙ (λ k. paste d at (j k) (sym (times_more s i) k))
 
-  pub put_none : (at : ℕ) (d : List ℕ) (xs : List X) → d ≡ paste d at (flat_map f (take 0 xs)) (s * 0)
-  put_none at d xs = paste_none d at [] ∙ ap (paste d at []) (sym (mul-zero s))
-
-  pub put_all : (at : ℕ) (d out : List ℕ) (xs : List X) (i : ℕ) → length xs ≤ i → i ≤ length xs → out ≡ paste d at (flat_map f (take i xs)) (s * i) →
-      out ≡ paste d at (flat_map f xs) (s * length xs)
-  put_all at d out xs i a b e =
-      let n : i ≡ length xs = omega arith in
-      e ∙ (λ k. paste d at (flat_map f (take_all i xs a k)) (s * n k))
-
 -- the entries below i are read, and the next one is pushed where there is place for n
 pub read_more : {X : Type 0} (f : ℕ → X) (n i : ℕ) (ys zs : List X) (x : X) → i < n → x ≡ f i → zs ≡ pushed n x ys →
     ys ≡ map f (range_with_len 0 i) → zs ≡ map f (range_with_len 0 (i + 1))
@@ -43,6 +34,3 @@ read_more f n i ys zs x h is z e =
     let l : length ys ≡ i = ap length e ∙ length-map-range_with_len f 0 i in
     let b : ltb (length ys) n ≡ true = lt-ltb (length ys) n (omega arith) in
     z ∙ ap (λ c. cond c (ys ++ x ∷ []) ys) b ∙ (λ k. e k ++ is k ∷ []) ∙ sym (map-range_with_len_more f 0 i i (omega arith))
-
-pub read_all : {X : Type 0} (f : ℕ → X) (i m : ℕ) (ys : List X) → i ≡ m → ys ≡ map f (range_with_len 0 i) → ys ≡ map f (range_with_len 0 m)
-read_all f i m ys n e = e ∙ ap (λ k. map f (range_with_len 0 k)) n

@@ -1,111 +1,128 @@
 // The entries of a row, pending productions and names, as bytes.
-ghost use Rattle.std.specs.Prelude.{◌≡◌, ℕ, ◌+◌, ◌*◌, ◌<◌, ◌≤◌, length, slice_index_or};
+ghost use Rattle.std.specs.Prelude.{◌≡◌, ℕ, ◌+◌, ◌*◌, ◌<◌, ◌≤◌, List, length, map, min, slice_index_or, refl};
 ghost use Rattle.std.proofs.Math.Seq.{paste};
-ghost use Rattle.std.specs.List.{flat_map};
-ghost use Rattle.model.specs.declared.record.Name.{Name};
-ghost use Rattle.model.specs.declared.record.Production.{Production};
+ghost use Rattle.std.specs.List.{flat_map, range_with_len};
 ghost use Rattle.bounded.specs.Lists.{listed};
-ghost use Rattle.rows.specs.Layout.{pending_bytes, name_bytes, pending_at, names_at, pending_size, name_size, PendingFits, NameFits};
-ghost use Rattle.rows.specs.Reading.{production_in, name_in, pending_in, names_in};
+ghost use Rattle.rows.specs.Layout.{pending_bytes, name_bytes, pending_size, name_size, PendingFits, NameFits};
+ghost use Rattle.rows.specs.Reading.{production_in, name_in};
 
 use crate::bytes::{number2_at, number4_at, put};
 use bounded::Bounded;
 use model::{Name, Production};
 
-// The bytes of a pending production, and of a name.
-const PENDING_SIZE: usize = 12;
+// What a row has many of, each in so many bytes.
+pub(crate) trait Entry: Copy + Default {
+    const SIZE: usize;
 
-const NAME_SIZE: usize = 10;
+    ghost SIZE: { ℕ };
+
+    // Its bytes, what stands at a place in bytes, and that its fields hold what they say.
+    ghost bytes_of: { Self → List ℕ };
+
+    ghost entry_in: { List ℕ → ℕ → Self };
+
+    ghost fits: { Self → Type 0 };
+
+    fn put_at(self, out: &mut [u8], at: usize)
+        requires { at + SIZE ≤ length out.old }
+        ensures fits { fits self }
+        ensures after { out.new ≡ paste out.old at (bytes_of self) SIZE };
+
+    fn read_at(bytes: &[u8], at: usize) -> Self
+        requires { at + SIZE ≤ length bytes.now }
+        ensures { result ≡ entry_in bytes.now at };
+
+    ghost sized: { (entry : Self) → length (bytes_of entry) ≡ SIZE };
+}
 
 // Where the state, the pending productions and the names begin.
 pub(crate) const STATE_AT: usize = 8;
 
-const PENDING_AT: usize = STATE_AT + 32;
+pub(crate) const PENDING_AT: usize = STATE_AT + 32;
 
-const NAMES_AT: usize = PENDING_AT + 4 * PENDING_SIZE;
+pub(crate) const NAMES_AT: usize = PENDING_AT + 4 * 12;
 
-fn pending_bytes(production: Production) -> [u8; 12]
-    ensures fits { PendingFits production }
-    ensures bytes { result ≡ pending_bytes production }
-{
-    let [s0, s1, s2, s3] = production.serial.to_le_bytes();
-    let [t0, t1, t2, t3] = production.time.to_le_bytes();
-    let [a0, a1, a2, a3] = u32::from(production.amount).to_le_bytes();
-    [s0, s1, s2, s3, t0, t1, t2, t3, a0, a1, a2, a3]
-}
+impl Entry for Production {
+    const SIZE: usize = 12;
 
-fn name_bytes(name: Name) -> [u8; 10]
-    ensures fits { NameFits name }
-    ensures bytes { result ≡ name_bytes name }
-{
-    let [n0, n1] = name.sender.to_le_bytes();
-    let [s0, s1, s2, s3] = name.serial.to_le_bytes();
-    let [t0, t1, t2, t3] = name.time.to_le_bytes();
-    [n0, n1, s0, s1, s2, s3, t0, t1, t2, t3]
-}
+    ghost SIZE = { pending_size };
 
-fn production_at(bytes: &[u8], at: usize) -> Production
-    requires { at + pending_size ≤ length bytes.now }
-    ensures { result ≡ production_in bytes.now at }
-{
-    Production {
-        serial: number4_at(bytes, at),
-        time: number4_at(bytes, at + 4),
-        amount: number2_at(bytes, at + 8),
+    ghost bytes_of = { pending_bytes };
+
+    ghost entry_in = { production_in };
+
+    ghost fits = { PendingFits };
+
+    ghost sized = { λ _. refl };
+
+    fn put_at(self, out: &mut [u8], at: usize) {
+        let [s0, s1, s2, s3] = self.serial.to_le_bytes();
+        let [t0, t1, t2, t3] = self.time.to_le_bytes();
+        let [a0, a1, a2, a3] = u32::from(self.amount).to_le_bytes();
+        put(out, at, &[s0, s1, s2, s3, t0, t1, t2, t3, a0, a1, a2, a3]);
+    }
+
+    fn read_at(bytes: &[u8], at: usize) -> Production {
+        Production {
+            serial: number4_at(bytes, at),
+            time: number4_at(bytes, at + 4),
+            amount: number2_at(bytes, at + 8),
+        }
     }
 }
 
-fn name_at(bytes: &[u8], at: usize) -> Name
-    requires { at + name_size ≤ length bytes.now }
-    ensures { result ≡ name_in bytes.now at }
-{
-    Name {
-        sender: number2_at(bytes, at),
-        serial: number4_at(bytes, at + 2),
-        time: number4_at(bytes, at + 6),
+impl Entry for Name {
+    const SIZE: usize = 10;
+
+    ghost SIZE = { name_size };
+
+    ghost bytes_of = { name_bytes };
+
+    ghost entry_in = { name_in };
+
+    ghost fits = { NameFits };
+
+    ghost sized = { λ _. refl };
+
+    fn put_at(self, out: &mut [u8], at: usize) {
+        let [n0, n1] = self.sender.to_le_bytes();
+        let [s0, s1, s2, s3] = self.serial.to_le_bytes();
+        let [t0, t1, t2, t3] = self.time.to_le_bytes();
+        put(out, at, &[n0, n1, s0, s1, s2, s3, t0, t1, t2, t3]);
+    }
+
+    fn read_at(bytes: &[u8], at: usize) -> Name {
+        Name {
+            sender: number2_at(bytes, at),
+            serial: number4_at(bytes, at + 2),
+            time: number4_at(bytes, at + 6),
+        }
     }
 }
 
-pub(crate) fn put_pending(out: &mut [u8], pending: &[Production])
-    requires { pending_at + pending_size * length pending.now ≤ length out.old }
-    ensures fits { (i : ℕ) (d : Production) → i < length pending.now → PendingFits (slice_index_or pending.now i d) }
-    ensures after { out.new ≡ paste out.old pending_at (flat_map pending_bytes pending.now) (pending_size * length pending.now) }
+// Writes entries, one after another, from a place on.
+pub(crate) fn put_entries<E: Entry>(out: &mut [u8], at: usize, entries: &[E])
+    requires { at + E.SIZE * length entries.now ≤ length out.old }
+    ensures fits { (i : ℕ) (d : E) → i < length entries.now → E.fits (slice_index_or entries.now i d) }
+    ensures after { out.new ≡ paste out.old at (flat_map E.bytes_of entries.now) (E.SIZE * length entries.now) }
 {
-    for (i, production) in pending.iter().enumerate() {
-        put(
-            out,
-            PENDING_AT + PENDING_SIZE * i,
-            &pending_bytes(*production),
-        );
+    for (i, entry) in entries.iter().enumerate() {
+        entry.put_at(out, at + E::SIZE * i);
     }
 }
 
-pub(crate) fn put_names(out: &mut [u8], names: &[Name])
-    requires { names_at + name_size * length names.now ≤ length out.old }
-    ensures fits { (i : ℕ) (d : Name) → i < length names.now → NameFits (slice_index_or names.now i d) }
-    ensures after { out.new ≡ paste out.old names_at (flat_map name_bytes names.now) (name_size * length names.now) }
-{
-    for (i, name) in names.iter().enumerate() {
-        put(out, NAMES_AT + NAME_SIZE * i, &name_bytes(*name));
-    }
-}
-
-pub(crate) fn pending_in(bytes: &[u8; 512]) -> Bounded<Production, 4>
-    ensures { listed result ≡ pending_in bytes.now }
+// So many entries, and at most N, from a place on.
+pub(crate) fn entries_in<E: Entry, const N: usize>(
+    bytes: &[u8],
+    at: usize,
+    count: u8,
+) -> Bounded<E, N>
+    requires { at + E.SIZE * N ≤ length bytes.now }
+    ensures { listed result ≡ map (λ i. E.entry_in bytes.now (at + E.SIZE * i)) (range_with_len 0 (min N count)) }
 {
     let mut list = Bounded::new();
-    for i in 0..(bytes[4] as usize).min(4) {
-        let _ = list.push(production_at(bytes, PENDING_AT + PENDING_SIZE * i));
-    }
-    list
-}
-
-pub(crate) fn names_in(bytes: &[u8; 512]) -> Bounded<Name, 40>
-    ensures { listed result ≡ names_in bytes.now }
-{
-    let mut list = Bounded::new();
-    for i in 0..(bytes[5] as usize).min(40) {
-        let _ = list.push(name_at(bytes, NAMES_AT + NAME_SIZE * i));
+    for i in 0..usize::from(count).min(N) {
+        let _ = list.push(E::read_at(bytes, at + E::SIZE * i));
     }
     list
 }

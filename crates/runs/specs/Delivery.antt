@@ -13,6 +13,7 @@ use Rattle.law.specs.Run.{Event}
 use Rattle.runs.specs.Counting.{counting, open_in, landed_in}
 use Rattle.runs.specs.Play.{play, asked}
 
+-- written out like the worked run, so that outcomes and places are read beside the calls
 abbrev pub delivery_calls : List Call
 delivery_calls =
     Restart 0 100 0 (Fill 0) ∷

@@ -1,17 +1,17 @@
 -- A commit, by how long power lasts: cut at the slot, cut at page 0, or done.
 use Rattle.std.proofs.Common.{◌≡◌, ℕ, ◌+◌, ◌-◌, ◌<◌, ◌≤◌, true, false, cond, eqb, leb, ◌≢◌, List, [], length, get_or, set, sym, refl, ap, ◌∙◌, subst, ⊎_elim, arith}
+use Rattle.std.proofs.Props.{props}
+use Rattle.std.proofs.Math.Logic.{∥∥₁_elim}
 use Rattle.std.proofs.lemmas.List.{get_or-set_other, set-get_or}
 use Rattle.std.proofs.lemmas.Bool.{cases_order, cases_Bool, cond-true, cond-false, le-leb, lt-leb, eq-eqb, ne_eqb, or_left, or_right, or_from, and_left, and_right, and_from}
-use Rattle.model.specs.Limits.{page_bytes}
 use Rattle.model.specs.Power.{commit_answer, renewed, spent}
 use Rattle.model.specs.Store.{Stored}
 use Rattle.model.specs.declared.answer.Answer.{Answer}
 use Rattle.model.specs.declared.answer.Answer.TheVariants.{Cut}
 use Rattle.stores.specs.Cards.{Medium, cut_at, landed, write_both_answer}
 use Rattle.stores.specs.Rows.{rows_by}
-use Rattle.stores.specs.Promises.{Commits}
-use Rattle.stores.proofs.Judging.{commits_on, row_fits_lem}
-use Rattle.stores.proofs.Rows.{same_stored, length-rows}
+use Rattle.stores.specs.Layouts.{Writes}
+use Rattle.stores.proofs.Rows.{same_stored}
 use Rattle.stores.proofs.Failing.{torn, torn_at, torn_zero}
 use Rattle.stores.proofs.Writing.{cut_first, cut_second, done_both, answer_first, answer_second, answer_done}
 use Rattle.shadow.specs.Layout.{row_count, Sound, meaning, commit_cut_at, switching, Switches, other_page, switched, row_in}
@@ -22,6 +22,10 @@ meant m r bytes = record {
   rows = cond (renewed 2 (meaning m).power) (set (meaning m).rows r bytes) (meaning m).rows;
   power = spent 2 0 (meaning m).power;
 }
+
+-- there is one proof at most that a card is sound
+pub known : {m : Medium} → ∥ Sound m ∥₁ → Sound m
+known t = ∥∥₁_elim t (hlevel props) (λ s. s)
 
 pub record Went (m : Medium) (r : ℕ) (bytes : List ℕ) : Type 0 where
   pub answer : write_both_answer m r (other_page m.pages r) bytes 0 ≡ commit_answer 2 (commit_cut_at m r) (meaning m).power
@@ -120,17 +124,11 @@ module _ (m : Medium) (r : ℕ) (bytes : List ℕ) (s : Sound m) (l : r < row_co
   pub went : Went m r bytes
   went = ⊎_elim went_second (⊎_elim (λ h. went_first (omega arith)) (λ h. went_done (omega arith))) (cases_order m.left 1)
 
--- the card that was written is sound
-pub sound_went : (m n : Medium) (row : ℕ) (bytes : List ℕ) (a : Answer) → row < row_count → m.on ≡ true → Sound m → Switches m n row bytes a → Sound n
-sound_went m n row bytes a l on s did = subst Sound (sym did.card) (went m row bytes s l on).sound
-
--- the store's promise, from what was written
-pub commit_went : (m n : Medium) (row : ℕ) (bytes : List ℕ) (a : Answer) → row < row_count → length bytes ≡ page_bytes → m.on ≡ true → Sound m → Switches m n row bytes a →
-    Commits 2 2 (commit_cut_at m row) (meaning m) (meaning n) row bytes a × (a ≡ commit_answer 2 (commit_cut_at m row) (meaning m).power)
-commit_went m n row bytes a l w on s did =
+-- what the layout promises, from what was written
+pub writes_went : (m n : Medium) (row : ℕ) (bytes : List ℕ) (a : Answer) → ∥ Sound m ∥₁ → row < row_count → m.on ≡ true → (0 < length m.pages → Switches m n row bytes a) →
+    ∥ Sound n ∥₁ × Writes 2 2 0 (commit_cut_at m row) (meaning m) (meaning n) row bytes a
+writes_went m n row bytes a truncated l on switches =
+    let s = known truncated in
+    let did = switches (omega (arith, s.sized)) in
     let g = went m row bytes s l on in
-    let answered = did.answer ∙ g.answer in (
-      commits_on 2 2 (commit_cut_at m row) (meaning m) row bytes (meaning n) a
-          (row_fits_lem (meaning m) row_count row bytes (length-rows (row_in m.pages) row_count) l w) on answered (ap meaning did.card ∙ g.means),
-      answered,
-    )
+    (∣ subst Sound (sym did.card) g.sound ∣₁, record { answer = did.answer ∙ g.answer; means = ap meaning did.card ∙ g.means })

@@ -1,3 +1,3 @@
 pub mod Switching
 pub mod Committing
-pub mod Formatting
+pub mod Waking

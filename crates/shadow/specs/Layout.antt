@@ -1,10 +1,11 @@
 -- The shadow store: two slots for each row, and page 0 to say which of them is live. Assumes nothing.
-use Rattle.std.specs.Prelude.{◌≡◌, ℕ, ◌+◌, ◌-◌, ◌*◌, ◌<◌, ◌≤◌, min, false, cond, List, [], length, replicate, ◌==◌, slice_index, slice_index_or, slice_set}
+use Rattle.std.specs.Prelude.{◌≡◌, ℕ, ◌+◌, ◌-◌, ◌*◌, ◌<◌, ◌≤◌, min, cond, List, [], length, ◌==◌, slice_index, slice_index_or, slice_set}
 use Rattle.model.specs.Limits.{page_bytes}
 use Rattle.model.specs.Store.{Stored}
 use Rattle.model.specs.declared.answer.Answer.{Answer}
 use Rattle.model.specs.declared.answer.CutPoint.{CutPoint}
-use Rattle.stores.specs.Cards.{Medium, cut_at, zero_page, blank_medium, written_both, write_both_answer}
+use Rattle.stores.specs.Cards.{Medium, cut_at, written_both, write_both_answer}
+use Rattle.stores.specs.Layouts.{Formatted as FormattedOn}
 use Rattle.stores.specs.Rows.{rows_by}
 
 abbrev pub row_count : ℕ
@@ -66,7 +67,5 @@ pub record Sound (m : Medium) : Type 0 where
   pub rest : (k : ℕ) → row_count ≤ k → flag m.pages k ≡ 0
 
 -- a store as formatting leaves it
-pub record Formatted (node : ℕ) (m : Medium) : Type 0 where
-  pub blank : m ≡ blank_medium node page_count
-  pub means : meaning m ≡ record { rows = replicate row_count zero_page; power = record { on = false; left = 0; tear = 0; owed = 0 } }
-  pub sound : Sound m
+abbrev pub Formatted : ℕ → Medium → Type 0
+Formatted node m = FormattedOn meaning Sound row_count page_count node m

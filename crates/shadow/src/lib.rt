@@ -3,4 +3,4 @@
 
 mod shadow;
 
-pub use shadow::Shadow;
+pub use shadow::{Shadow, ShadowLayout};

@@ -1,4 +1,3 @@
 pub mod Failing
 pub mod Writing
 pub mod Rows
-pub mod Judging

@@ -3,3 +3,4 @@ pub mod Cards
 pub mod Promises
 pub mod Change
 pub mod Rows
+pub mod Layouts

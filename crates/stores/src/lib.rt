@@ -7,12 +7,16 @@
 
 mod card;
 mod change;
+mod layout;
+mod on_card;
 mod store;
 mod supply;
 mod tear;
 
 pub use card::{Card, Page, Unfit, as_page};
 pub use change::change_byte;
+pub use layout::Layout;
+pub use on_card::OnCard;
 pub use store::Store;
 pub use supply::Supply;
 pub use tear::Tear;

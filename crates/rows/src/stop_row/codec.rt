@@ -10,7 +10,7 @@ ghost use Rattle.rows.specs.Reading.{row_in, LaidOut};
 
 use super::StopRow;
 use crate::bytes::{bytes4_of, number4_at, put};
-use crate::entries::{STATE_AT, names_in, pending_in, put_names, put_pending};
+use crate::entries::{NAMES_AT, PENDING_AT, STATE_AT, entries_in, put_entries};
 
 // What stands before the state: the next serial and how many entries there are.
 fn head(next: u32, pending: u8, names: u8) -> [u8; 8]
@@ -37,8 +37,8 @@ impl StopRow {
             &head(self.next, pending.len() as u8, names.len() as u8),
         );
         put(&mut out, STATE_AT, &self.state);
-        put_pending(&mut out, pending);
-        put_names(&mut out, names);
+        put_entries(&mut out, PENDING_AT, pending);
+        put_entries(&mut out, NAMES_AT, names);
         out
     }
 
@@ -51,8 +51,8 @@ impl StopRow {
         StopRow {
             next: number4_at(bytes, 0),
             state,
-            pending: pending_in(bytes),
-            names: names_in(bytes),
+            pending: entries_in(bytes, PENDING_AT, bytes[4]),
+            names: entries_in(bytes, NAMES_AT, bytes[5]),
         }
     }
 

@@ -13,7 +13,11 @@ impl StopRow {
     pub fn staying(&self, floor: u32) -> usize
         ensures { result ≡ staying floor (row_of self.now) }
     {
-        self.names.as_slice().iter().filter(|name| name.time >= floor).count()
+        self.names
+            .as_slice()
+            .iter()
+            .filter(|name| name.time >= floor)
+            .count()
     }
 
     // Drops the names below a floor.

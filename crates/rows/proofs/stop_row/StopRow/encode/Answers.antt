@@ -18,20 +18,20 @@ returns c =
       pending = c.as_slice-pending.ensures.value k;
       names = c.as_slice-names.ensures.value k;
     } in
-    let out = c.put_names.new.out in
+    let out = c.put_entries-2.new.out in
     let fits : RowFits row =
     record {
       next = c.head.ensures.fits;
       state = record { size = c.args.self.now.sized; small = c.put-2.ensures.small };
       few_pending = c.as_slice-pending.ensures.bound;
       few_names = c.as_slice-names.ensures.bound;
-      pending = c.put_pending.ensures.fits;
-      names = c.put_names.ensures.fits;
+      pending = c.put_entries.ensures.fits;
+      names = c.put_entries-2.ensures.fits;
     } in
     let bytes : out ≡ encoded row =
-    encoded_by row page_bytes _ c.head.result c.put.new.out c.put-2.new.out c.put_pending.new.out out refl c.args.self.now.sized
+    encoded_by row page_bytes _ c.head.result c.put.new.out c.put-2.new.out c.put_entries.new.out out refl c.args.self.now.sized
     c.as_slice-pending.ensures.bound c.as_slice-names.ensures.bound refl c.head.ensures.bytes c.put.ensures.after
-    c.put-2.ensures.after c.put_pending.ensures.after c.put_names.ensures.after in
+    c.put-2.ensures.after c.put_entries.ensures.after c.put_entries-2.ensures.after in
     record {
       bytes = subst (λ (r : Row). out ≡ encoded r) same bytes;
       fits = subst RowFits same fits;

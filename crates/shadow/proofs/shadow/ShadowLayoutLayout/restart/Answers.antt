@@ -1,0 +1,8 @@
+-- The card was turned on, and nothing else.
+use Rattle.stores.specs.Cards.{medium}
+use Rattle.stores.specs.Tears.{tear_number}
+use Rattle.shadow.proofs.Waking.{woke}
+use Rattle.shadow.proofs.shadow.ShadowLayoutLayout.restart.Goals as goal
+
+pub returns-clause-wakes : goal.returns-clause-wakes
+returns-clause-wakes c = woke (medium c.args.card.now) (medium c.restart.new.self) c.args.left (tear_number c.args.tear) c.args.junk.now c.restart.ensures
