@@ -8,19 +8,19 @@ ghost use Rattle.std.proofs.Common.{rules};
 
 use super::entries::Entries;
 use model::Answer;
-use stores::{Store, as_page};
+use stores::{Store, Supply, as_page};
 
 #[derive(Drop)]
-pub struct Cached<S> {
+pub struct Cached<S: Store> {
     below: S,
     copies: Entries,
+    pub ghost agrees: { Agrees (S.model below) copies.places },
 }
 
 impl<S: Store> Cached<S> {
     // A cache over a store, with no copies yet.
     pub fn new(below: S) -> Cached<S>
-        ensures below { result.below ≡ below }
-        ensures fits { S.Store.fit below → S.Store.fit result.below × Agrees (S.Store.model result.below) result.copies.places }
+        ensures { result.below ≡ below }
     {
         Cached {
             below,
@@ -31,8 +31,6 @@ impl<S: Store> Cached<S> {
 
 impl<S: Store> Store for Cached<S> {
     ghost model = { λ s. S.Store.model s.below };
-
-    ghost fit = { λ s. S.Store.fit s.below × Agrees (S.Store.model s.below) s.copies.places };
 
     ghost cost = { S.Store.cost };
 
@@ -74,12 +72,12 @@ impl<S: Store> Store for Cached<S> {
 
     // A row that was just read or committed is at hand, and a row at hand is read without the store below.
     fn read(&mut self, row: usize, out: &mut [u8]) -> Answer
-        ensures reads { S.Store.fit self.old.below × Agrees (S.Store.model self.old.below) self.old.copies.places → Reads (S.Store.fit self.new.below × Agrees (S.Store.model self.new.below) self.new.copies.places) (S.Store.model self.old.below) (S.Store.model self.new.below) row out.old out.new result }
-        ensures cuts_stay { S.Store.fit self.old.below × Agrees (S.Store.model self.old.below) self.old.copies.places → (S.Store.commit_cut self.new.below ≡ S.Store.commit_cut self.old.below) × (S.Store.restart_cut self.new.below ≡ S.Store.restart_cut self.old.below) }
+        ensures reads { Reads (S.Store.model self.old.below) (S.Store.model self.new.below) row out.old out.new result }
+        ensures cuts_stay { (S.Store.commit_cut self.new.below ≡ S.Store.commit_cut self.old.below) × (S.Store.restart_cut self.new.below ≡ S.Store.restart_cut self.old.below) }
         ensures home_stays { S.Store.home self.new.below ≡ S.Store.home self.old.below }
-        ensures refusal_changes_nothing { S.Store.fit self.old.below × Agrees (S.Store.model self.old.below) self.old.copies.places → refusal result ≡ true → self.new ≡ self.old }
+        ensures refusal_changes_nothing { refusal result ≡ true → self.new ≡ self.old }
         ensures at_hand_is_served { holds self.old.copies.places row ≡ true → length out.old ≡ 512 → self.new.below ≡ self.old.below }
-        ensures read_is_at_hand { S.Store.fit self.old.below × Agrees (S.Store.model self.old.below) self.old.copies.places → result ≡ Done → holds self.new.copies.places row ≡ true }
+        ensures read_is_at_hand { result ≡ Done → holds self.new.copies.places row ≡ true }
     {
         if out.len() == 512 {
             if let Some(page) = self.copies.find(row) {
@@ -95,10 +93,10 @@ impl<S: Store> Store for Cached<S> {
     }
 
     fn commit(&mut self, row: usize, bytes: &[u8]) -> Answer
-        ensures commits { S.Store.fit self.old.below × Agrees (S.Store.model self.old.below) self.old.copies.places → Commits (S.Store.fit self.new.below × Agrees (S.Store.model self.new.below) self.new.copies.places) S.Store.cost S.Store.turn (S.Store.commit_cut self.old.below row) (S.Store.model self.old.below) (S.Store.model self.new.below) row bytes.now result }
+        ensures commits { Commits S.Store.cost S.Store.turn (S.Store.commit_cut self.old.below row) (S.Store.model self.old.below) (S.Store.model self.new.below) row bytes.now result }
         ensures home_stays { S.Store.home self.new.below ≡ S.Store.home self.old.below }
-        ensures refusal_changes_nothing { S.Store.fit self.old.below × Agrees (S.Store.model self.old.below) self.old.copies.places → refusal result ≡ true → self.new ≡ self.old }
-        ensures committed_is_at_hand { S.Store.fit self.old.below × Agrees (S.Store.model self.old.below) self.old.copies.places → result ≡ Done → holds self.new.copies.places row ≡ true }
+        ensures refusal_changes_nothing { refusal result ≡ true → self.new ≡ self.old }
+        ensures committed_is_at_hand { result ≡ Done → holds self.new.copies.places row ≡ true }
     {
         let answer = self.below.commit(row, bytes);
         match (answer, as_page(bytes)) {
@@ -109,13 +107,13 @@ impl<S: Store> Store for Cached<S> {
         answer
     }
 
-    fn restart(&mut self, left: u32, tear: u8, junk: &[u8]) -> Answer
-        ensures restarts { S.Store.fit self.old.below × Agrees (S.Store.model self.old.below) self.old.copies.places → Restarts (S.Store.fit self.new.below × Agrees (S.Store.model self.new.below) self.new.copies.places) (S.Store.restart_cut self.old.below left) (S.Store.model self.old.below) (S.Store.model self.new.below) left tear junk.now result }
+    fn restart(&mut self, supply: Supply<'_>) -> Answer
+        ensures restarts { Restarts (S.Store.restart_cut self.old.below supply.entry.left) (S.Store.model self.old.below) (S.Store.model self.new.below) supply.entry.left supply.entry.tear supply.entry.junk.now result }
         ensures home_stays { S.Store.home self.new.below ≡ S.Store.home self.old.below }
-        ensures refusal_changes_nothing { S.Store.fit self.old.below × Agrees (S.Store.model self.old.below) self.old.copies.places → refusal result ≡ true → self.new ≡ self.old }
+        ensures refusal_changes_nothing { refusal result ≡ true → self.new ≡ self.old }
         ensures emptied { refusal result ≡ false → Empty self.new.copies.places }
     {
-        let answer = self.below.restart(left, tear, junk);
+        let answer = self.below.restart(supply);
         match answer {
             Answer::Done | Answer::Cut(_) => self.copies.clear(),
             _ => {}

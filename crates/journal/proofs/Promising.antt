@@ -8,7 +8,7 @@ use Rattle.stores.specs.Cards.{Medium}
 use Rattle.stores.specs.Promises.{Commits, Restarts}
 use Rattle.stores.proofs.Judging.{commits_on, restarts_on, row_fits_lem}
 use Rattle.stores.proofs.Rows.{same_stored, length-rows}
-use Rattle.journal.specs.Layout.{row_count, Sound, meaning, row_in, commit_cut_at, restart_cut_at, owed_after_commit, owed_after_restart}
+use Rattle.journal.specs.Layout.{row_count, meaning, row_in, commit_cut_at, restart_cut_at, owed_after_commit, owed_after_restart}
 use Rattle.journal.proofs.Committing.{Went}
 use Rattle.journal.proofs.Restarting.{Woke}
 
@@ -23,8 +23,8 @@ module _ (m : Medium) (row : ℕ) (bytes : List ℕ) where
   owes_off off = sym (cond-false _ _ _ (and_right (row_fits (meaning m) row bytes) _ off))
 
   module _ (n : Medium) (a : Answer) (l : row < row_count) (w : length bytes ≡ page_bytes) (on : m.on ≡ true) (went : Went m n row bytes a) where
-    pub commits_went : Commits (Sound n) 4 2 (commit_cut_at m row) (meaning m) (meaning n) row bytes a
-    commits_went = commits_on went.sound 4 2 (commit_cut_at m row) (meaning m) row bytes (meaning n) a (fits m row bytes l w) on went.answer
+    pub commits_went : Commits 4 2 (commit_cut_at m row) (meaning m) (meaning n) row bytes a
+    commits_went = commits_on 4 2 (commit_cut_at m row) (meaning m) row bytes (meaning n) a (fits m row bytes l w) on went.answer
         (same_stored _ _ _ _ _ _ _ _ (meaning n).power.owed went.rows went.on went.left went.tear)
 
     pub owes_went : (meaning n).power.owed ≡ owed_after_commit (meaning m) row bytes
@@ -35,8 +35,8 @@ module _ (m : Medium) (left tear : ℕ) (junk : List ℕ) where
   owes_still out = sym (cond-false _ _ _ out)
 
   module _ (n : Medium) (a : Answer) (w : restart_fits tear junk ≡ true) (woke : Woke m n left tear a) where
-    pub restarts_woke : Restarts (Sound n) (restart_cut_at m left) (meaning m) (meaning n) left tear junk a
-    restarts_woke = restarts_on woke.sound (restart_cut_at m left) (meaning m) left tear junk (meaning n) a w woke.answer
+    pub restarts_woke : Restarts (restart_cut_at m left) (meaning m) (meaning n) left tear junk a
+    restarts_woke = restarts_on (restart_cut_at m left) (meaning m) left tear junk (meaning n) a w woke.answer
         (same_stored _ _ _ _ _ _ _ _ (meaning n).power.owed woke.rows woke.on woke.left woke.tear)
 
     pub owes_woke : (meaning n).power.owed ≡ owed_after_restart (meaning m) left tear junk

@@ -11,7 +11,7 @@ ghost use Rattle.journal.specs.Layout.{home, mark, mark_page, Journals, Mends, m
 ghost use Rattle.std.proofs.Common.{rules};
 
 use model::Answer;
-use stores::{Card, Page, Store, Tear, Unfit, as_page};
+use stores::{Card, Page, Store, Supply, Tear, Unfit, as_page};
 
 const ROWS: usize = 33;
 
@@ -20,6 +20,7 @@ const PAGES: usize = 35;
 #[derive(Drop)]
 pub struct Journal {
     card: Card,
+    pub ghost sound: { Sound (medium card) },
 }
 
 // Page 0 with a mark: 0, or r + 1 while page 1 stands for row r.
@@ -50,47 +51,42 @@ impl Journal {
         }
         Ok(Journal { card: card.wiped() })
     }
+}
 
-    // Writes the journal and the mark, and then the home and no mark.
-    fn write_row(&mut self, row: u8, page: &Page) -> Answer
-        requires { row < 33 }
-        ensures journals { Journals (medium self.old.card) (medium self.new.card) row page.now result }
-        ensures node_stays { (medium self.new.card).node ≡ (medium self.old.card).node }
-    {
-        match self.card.write_both(row, 1, page, 0, &mark_page(row + 1)) {
-            Answer::Done => self
-                .card
-                .write_both(row, home_page(row), page, 0, &mark_page(0)),
-            answer => answer,
-        }
+// Writes the journal and the mark, and then the home and no mark.
+fn write_row(card: &mut Card, row: u8, page: &Page) -> Answer
+    requires { row < 33 }
+    ensures journals { Journals (medium card.old) (medium card.new) row page.now result }
+    ensures node_stays { (medium card.new).node ≡ (medium card.old).node }
+{
+    match card.write_both(row, 1, page, 0, &mark_page(row + 1)) {
+        Answer::Done => card.write_both(row, home_page(row), page, 0, &mark_page(0)),
+        answer => answer,
     }
+}
 
-    // Finishes the commit that page 1 stands for, if there is one.
-    fn mend(&mut self) -> Answer
-        ensures mends { length (medium self.old.card).pages ≡ 35 → mark (medium self.old.card).pages ≤ 33 → Mends (medium self.old.card) (medium self.new.card) result }
-        ensures node_stays { (medium self.new.card).node ≡ (medium self.old.card).node }
-    {
-        let Some(first) = self.card.page(0) else {
-            return Answer::OutOfRange;
-        };
-        let Some(journal) = self.card.page(1) else {
-            return Answer::OutOfRange;
-        };
-        let mark = first[0];
-        if mark == 0 || mark > ROWS as u8 {
-            return Answer::Done;
-        }
-        let bytes = *journal;
-        let row = mark - 1;
-        self.card
-            .write_both(row, home_page(row), &bytes, 0, &mark_page(0))
+// Finishes the commit that page 1 stands for, if there is one.
+fn mend(card: &mut Card) -> Answer
+    ensures mends { length (medium card.old).pages ≡ 35 → mark (medium card.old).pages ≤ 33 → Mends (medium card.old) (medium card.new) result }
+    ensures node_stays { (medium card.new).node ≡ (medium card.old).node }
+{
+    let Some(first) = card.page(0) else {
+        return Answer::OutOfRange;
+    };
+    let Some(journal) = card.page(1) else {
+        return Answer::OutOfRange;
+    };
+    let mark = first[0];
+    if mark == 0 || mark > ROWS as u8 {
+        return Answer::Done;
     }
+    let bytes = *journal;
+    let row = mark - 1;
+    card.write_both(row, home_page(row), &bytes, 0, &mark_page(0))
 }
 
 impl Store for Journal {
     ghost model = { λ s. meaning (medium s.card) };
-
-    ghost fit = { λ s. Sound (medium s.card) };
 
     ghost cost = { 4 };
 
@@ -148,10 +144,10 @@ impl Store for Journal {
     }
 
     fn commit(&mut self, row: usize, bytes: &[u8]) -> Answer
-        ensures commits { Sound (medium self.old.card) → Commits (Sound (medium self.new.card)) 4 2 (commit_cut_at (medium self.old.card) row) (meaning (medium self.old.card)) (meaning (medium self.new.card)) row bytes.now result }
-        ensures owes { Sound (medium self.old.card) → (meaning (medium self.new.card)).power.owed ≡ owed_after_commit (meaning (medium self.old.card)) row bytes.now }
+        ensures commits { Commits 4 2 (commit_cut_at (medium self.old.card) row) (meaning (medium self.old.card)) (meaning (medium self.new.card)) row bytes.now result }
+        ensures owes { (meaning (medium self.new.card)).power.owed ≡ owed_after_commit (meaning (medium self.old.card)) row bytes.now }
         ensures home_stays { (medium self.new.card).node ≡ (medium self.old.card).node }
-        ensures refusal_changes_nothing { Sound (medium self.old.card) → refusal result ≡ true → self.new ≡ self.old }
+        ensures refusal_changes_nothing { refusal result ≡ true → self.new ≡ self.old }
     {
         let Some(page) = as_page(bytes) else {
             return Answer::OutOfRange;
@@ -162,22 +158,19 @@ impl Store for Journal {
         if !self.is_on() {
             return Answer::Off;
         }
-        self.write_row(row as u8, page)
+        write_row(&mut self.card, row as u8, page)
     }
 
-    fn restart(&mut self, left: u32, tear: u8, junk: &[u8]) -> Answer
-        ensures restarts { Sound (medium self.old.card) → Restarts (Sound (medium self.new.card)) (restart_cut_at (medium self.old.card) left) (meaning (medium self.old.card)) (meaning (medium self.new.card)) left tear junk.now result }
-        ensures owes { Sound (medium self.old.card) → (meaning (medium self.new.card)).power.owed ≡ owed_after_restart (meaning (medium self.old.card)) left tear junk.now }
+    fn restart(&mut self, supply: Supply<'_>) -> Answer
+        ensures restarts { Restarts (restart_cut_at (medium self.old.card) supply.entry.left) (meaning (medium self.old.card)) (meaning (medium self.new.card)) supply.entry.left supply.entry.tear supply.entry.junk.now result }
+        ensures owes { (meaning (medium self.new.card)).power.owed ≡ owed_after_restart (meaning (medium self.old.card)) supply.entry.left supply.entry.tear supply.entry.junk.now }
         ensures home_stays { (medium self.new.card).node ≡ (medium self.old.card).node }
-        ensures refusal_changes_nothing { Sound (medium self.old.card) → refusal result ≡ true → self.new ≡ self.old }
+        ensures refusal_changes_nothing { refusal result ≡ true → self.new ≡ self.old }
     {
-        let Some(junk) = as_page(junk) else {
+        let (Some(junk), Ok(tear)) = (as_page(supply.junk), Tear::try_from(supply.tear)) else {
             return Answer::OutOfRange;
         };
-        let Some(tear) = Tear::of(tear) else {
-            return Answer::OutOfRange;
-        };
-        self.card.restart(left, tear, junk);
-        self.mend()
+        self.card.restart(supply.left, tear, junk);
+        mend(&mut self.card)
     }
 }

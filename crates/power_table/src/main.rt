@@ -9,41 +9,50 @@ mod trial;
 use anyhow::anyhow;
 use cache::Cached;
 use journal::Journal;
+use model::Answer;
 use shadow::Shadow;
 use stores::{Card, Store};
-use trial::{after_commit, after_restart};
+use trial::{commit, restart, try_out};
 
-// A table of every left and tear for a commit, and one for the restart after a commit that was cut.
-fn tables<S: Store>(rt: &impl Print, name: &str, store: &mut S, cut: u32) -> anyhow::Result<()> {
-    println!(rt; "{name}: a commit")?;
+// What a trial shows at every left and tear.
+fn table<S: Store, F: Fn(&mut S, u32, u8) -> Answer>(
+    rt: &impl Print,
+    store: &mut S,
+    trial: F,
+) -> anyhow::Result<()>
+    requires { F.IsAlwaysCallable trial }
+{
     for left in 0..6 {
-        let old = after_commit(store, left, 0);
-        let new = after_commit(store, left, 1);
-        let junk = after_commit(store, left, 2);
-        println!(rt; "left {left} | {old} | {new} | {junk}")?;
-    }
-    println!(rt; "{name}: a restart after a commit at left {cut}")?;
-    for left in 0..6 {
-        let old = after_restart(store, cut, left, 0);
-        let new = after_restart(store, cut, left, 1);
-        let junk = after_restart(store, cut, left, 2);
+        let old = try_out(store, |store| trial(store, left, 0));
+        let new = try_out(store, |store| trial(store, left, 1));
+        let junk = try_out(store, |store| trial(store, left, 2));
         println!(rt; "left {left} | {old} | {new} | {junk}")?;
     }
     Ok(())
 }
 
+// A table of a commit, and one of the restart after a commit that was cut.
+fn tables<S: Store>(rt: &impl Print, name: &str, store: &mut S, cut: u32) -> anyhow::Result<()> {
+    println!(rt; "{name}: a commit")?;
+    table(rt, store, commit)?;
+    println!(rt; "{name}: a restart after a commit at left {cut}")?;
+    table(
+        rt,
+        store,
+        |store, left, tear| restart(store, cut, left, tear),
+    )
+}
+
 fn journal(rt: &HostRuntime) -> anyhow::Result<Journal> {
-    match Journal::format(Card::blank(rt.alloc(), 0, 35)?) {
-        Ok(store) => Ok(store),
-        Err(_) => Err(anyhow!("the card has not the journal store's size")),
-    }
+    Journal::format(Card::blank(rt.alloc(), 0, 35)?).map_err(|_| anyhow!(
+        "the card has not the journal store's size"
+    ))
 }
 
 fn shadow(rt: &HostRuntime) -> anyhow::Result<Shadow> {
-    match Shadow::format(Card::blank(rt.alloc(), 1, 67)?) {
-        Ok(store) => Ok(store),
-        Err(_) => Err(anyhow!("the card has not the shadow store's size")),
-    }
+    Shadow::format(Card::blank(rt.alloc(), 1, 67)?).map_err(|_| anyhow!(
+        "the card has not the shadow store's size"
+    ))
 }
 
 fn main(rt: HostRuntime) -> anyhow::Result<()> {

@@ -1,7 +1,7 @@
 // One trial: a row of ones, then a commit that makes its last byte nine, with so much power.
 use model::Answer;
 use std::fmt;
-use stores::{Page, Store, change_byte};
+use stores::{Page, Store, Supply, change_byte};
 
 const ROW: usize = 5;
 
@@ -44,9 +44,15 @@ impl fmt::Display for Seen {
     }
 }
 
+// Power for so many writes, the last of which is torn so.
+fn supply(left: u32, tear: u8) -> Supply<'static> {
+    let junk = &JUNK;
+    Supply { left, tear, junk }
+}
+
 // The store up, on, and with its row of ones.
 fn prepare<S: Store>(store: &mut S) {
-    let _ = store.restart(100, 0, &JUNK);
+    let _ = store.restart(supply(100, 0));
     let _ = store.commit(ROW, &OLD);
 }
 
@@ -55,7 +61,7 @@ fn look<S: Store>(store: &mut S, answer: Answer) -> Seen {
     let on = store.is_on();
     let owed = store.owed();
     let mut out = [0; 512];
-    let _ = store.restart(100, 0, &JUNK);
+    let _ = store.restart(supply(100, 0));
     let _ = store.read(ROW, &mut out);
     let mut new = OLD;
     new[LAST] = NINE;
@@ -74,17 +80,23 @@ fn look<S: Store>(store: &mut S, answer: Answer) -> Seen {
     }
 }
 
-pub fn after_commit<S: Store>(store: &mut S, left: u32, tear: u8) -> Seen {
+// What a trial of the store answers, and what is left of the store.
+pub fn try_out<S: Store, F: FnOnce(&mut S) -> Answer>(store: &mut S, trial: F) -> Seen
+    requires { F.IsAlwaysCallable trial }
+{
     prepare(store);
-    let _ = store.restart(left, tear, &JUNK);
-    let answer = change_byte(store, ROW, LAST, NINE);
+    let answer = trial(store);
     look(store, answer)
 }
 
-pub fn after_restart<S: Store>(store: &mut S, cut: u32, left: u32, tear: u8) -> Seen {
-    prepare(store);
-    let _ = store.restart(cut, 0, &JUNK);
-    let _ = change_byte(store, ROW, LAST, NINE);
-    let answer = store.restart(left, tear, &JUNK);
-    look(store, answer)
+// A commit with so much power.
+pub fn commit<S: Store>(store: &mut S, left: u32, tear: u8) -> Answer {
+    let _ = store.restart(supply(left, tear));
+    change_byte(store, ROW, LAST, NINE)
+}
+
+// A restart with so much power, after a commit with power for `cut` writes.
+pub fn restart<S: Store>(store: &mut S, cut: u32, left: u32, tear: u8) -> Answer {
+    let _ = commit(store, cut, 0);
+    store.restart(supply(left, tear))
 }

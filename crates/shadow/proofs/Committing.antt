@@ -120,13 +120,17 @@ module _ (m : Medium) (r : ℕ) (bytes : List ℕ) (s : Sound m) (l : r < row_co
   pub went : Went m r bytes
   went = ⊎_elim went_second (⊎_elim (λ h. went_first (omega arith)) (λ h. went_done (omega arith))) (cases_order m.left 1)
 
+-- the card that was written is sound
+pub sound_went : (m n : Medium) (row : ℕ) (bytes : List ℕ) (a : Answer) → row < row_count → m.on ≡ true → Sound m → Switches m n row bytes a → Sound n
+sound_went m n row bytes a l on s did = subst Sound (sym did.card) (went m row bytes s l on).sound
+
 -- the store's promise, from what was written
 pub commit_went : (m n : Medium) (row : ℕ) (bytes : List ℕ) (a : Answer) → row < row_count → length bytes ≡ page_bytes → m.on ≡ true → Sound m → Switches m n row bytes a →
-    Commits (Sound n) 2 2 (commit_cut_at m row) (meaning m) (meaning n) row bytes a × (a ≡ commit_answer 2 (commit_cut_at m row) (meaning m).power)
+    Commits 2 2 (commit_cut_at m row) (meaning m) (meaning n) row bytes a × (a ≡ commit_answer 2 (commit_cut_at m row) (meaning m).power)
 commit_went m n row bytes a l w on s did =
     let g = went m row bytes s l on in
     let answered = did.answer ∙ g.answer in (
-      commits_on (subst Sound (sym did.card) g.sound) 2 2 (commit_cut_at m row) (meaning m) row bytes (meaning n) a
+      commits_on 2 2 (commit_cut_at m row) (meaning m) row bytes (meaning n) a
           (row_fits_lem (meaning m) row_count row bytes (length-rows (row_in m.pages) row_count) l w) on answered (ap meaning did.card ∙ g.means),
       answered,
     )

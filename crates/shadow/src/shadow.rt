@@ -9,7 +9,7 @@ ghost use Rattle.shadow.specs.Layout.{slot, row_in, Switches, meaning, commit_cu
 ghost use Rattle.std.proofs.Common.{rules};
 
 use model::Answer;
-use stores::{Card, Page, Store, Tear, Unfit, as_page};
+use stores::{Card, Page, Store, Supply, Tear, Unfit, as_page};
 
 const ROWS: usize = 33;
 
@@ -20,6 +20,7 @@ const OWED: u32 = 0;
 #[derive(Drop)]
 pub struct Shadow {
     card: Card,
+    pub ghost sound: { Sound (medium card) },
 }
 
 impl Shadow {
@@ -44,22 +45,22 @@ impl Shadow {
         };
         self.card.page(slot_page(row, flags[row].min(1)))
     }
+}
 
-    // Writes the other slot of a row, and then page 0 with that slot live.
-    fn switch(&mut self, row: usize, page: &Page) -> Answer
-        requires { row < 33 }
-        ensures switches { 0 < length (medium self.old.card).pages → Switches (medium self.old.card) (medium self.new.card) row page.now result }
-        ensures node_stays { (medium self.new.card).node ≡ (medium self.old.card).node }
-    {
-        let Some(flags) = self.card.page(0) else {
-            return Answer::OutOfRange;
-        };
-        let mut switched = *flags;
-        let other = 1u8.saturating_sub(switched[row]);
-        switched[row] = other;
-        let spot = slot_page(row, other);
-        self.card.write_both(row as u8, spot, page, 0, &switched)
-    }
+// Writes the other slot of a row, and then page 0 with that slot live.
+fn switch(card: &mut Card, row: usize, page: &Page) -> Answer
+    requires { row < 33 }
+    ensures switches { 0 < length (medium card.old).pages → Switches (medium card.old) (medium card.new) row page.now result }
+    ensures node_stays { (medium card.new).node ≡ (medium card.old).node }
+{
+    let Some(flags) = card.page(0) else {
+        return Answer::OutOfRange;
+    };
+    let mut switched = *flags;
+    let other = 1u8.saturating_sub(switched[row]);
+    switched[row] = other;
+    let spot = slot_page(row, other);
+    card.write_both(row as u8, spot, page, 0, &switched)
 }
 
 // The page of a slot of a row.
@@ -72,8 +73,6 @@ fn slot_page(row: usize, which: u8) -> u8
 
 impl Store for Shadow {
     ghost model = { λ s. meaning (medium s.card) };
-
-    ghost fit = { λ s. Sound (medium s.card) };
 
     ghost cost = { 2 };
 
@@ -137,17 +136,14 @@ impl Store for Shadow {
         if !self.is_on() {
             return Answer::Off;
         }
-        self.switch(row, page)
+        switch(&mut self.card, row, page)
     }
 
-    fn restart(&mut self, left: u32, tear: u8, junk: &[u8]) -> Answer {
-        let Some(junk) = as_page(junk) else {
+    fn restart(&mut self, supply: Supply<'_>) -> Answer {
+        let (Some(junk), Ok(tear)) = (as_page(supply.junk), Tear::try_from(supply.tear)) else {
             return Answer::OutOfRange;
         };
-        let Some(tear) = Tear::of(tear) else {
-            return Answer::OutOfRange;
-        };
-        self.card.restart(left, tear, junk);
+        self.card.restart(supply.left, tear, junk);
         Answer::Done
     }
 }

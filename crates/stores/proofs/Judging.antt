@@ -13,59 +13,54 @@ use Rattle.stores.specs.declared.tear.Tear.{Tear}
 use Rattle.stores.specs.declared.tear.Tear.TheVariants.{Old, New, Junk}
 use Rattle.stores.specs.Promises.{Reads, Commits, Restarts}
 
-module _ {Fit : Type 0} (fits : Fit) (s : Stored) (row : ℕ) (bytes : List ℕ) where
-  pub reads_out : row_fits s row bytes ≡ false → Reads Fit s s row bytes bytes OutOfRange
+module _ (s : Stored) (row : ℕ) (bytes : List ℕ) where
+  pub reads_out : row_fits s row bytes ≡ false → Reads s s row bytes bytes OutOfRange
   reads_out out = record {
-    fits = fits;
     answer = sym (cond-false _ _ _ out);
     bytes = sym (cond-false _ _ _ (and_left _ _ out));
     means = refl;
   }
 
-  pub reads_off : row_fits s row bytes ≡ true → s.power.on ≡ false → Reads Fit s s row bytes bytes Off
+  pub reads_off : row_fits s row bytes ≡ true → s.power.on ≡ false → Reads s s row bytes bytes Off
   reads_off ranged off = record {
-    fits = fits;
     answer = sym (cond-true _ _ _ ranged ∙ cond-false _ _ _ off);
     bytes = sym (cond-false _ _ _ (and_right _ _ off));
     means = refl;
   }
 
-  pub reads_done : (after : List ℕ) → row_fits s row bytes ≡ true → s.power.on ≡ true → after ≡ get_or s.rows row [] → Reads Fit s s row bytes after Done
+  pub reads_done : (after : List ℕ) → row_fits s row bytes ≡ true → s.power.on ≡ true → after ≡ get_or s.rows row [] → Reads s s row bytes after Done
   reads_done after ranged on is = record {
-    fits = fits;
     answer = sym (cond-true _ _ _ ranged ∙ cond-true _ _ _ on);
     bytes = is ∙ sym (cond-true _ _ _ (and_from _ _ ranged on));
     means = refl;
   }
 
-module _ {Fit : Type 0} (fits : Fit) (cost turn : ℕ) (point : CutPoint) (s : Stored) (row : ℕ) (bytes : List ℕ) where
-  pub commits_out : row_fits s row bytes ≡ false → Commits Fit cost turn point s s row bytes OutOfRange
-  commits_out out = record { fits = fits; answer = sym (cond-false _ _ _ out); means = sym (cond-false _ _ _ (and_left _ _ out)) }
+module _ (cost turn : ℕ) (point : CutPoint) (s : Stored) (row : ℕ) (bytes : List ℕ) where
+  pub commits_out : row_fits s row bytes ≡ false → Commits cost turn point s s row bytes OutOfRange
+  commits_out out = record { answer = sym (cond-false _ _ _ out); means = sym (cond-false _ _ _ (and_left _ _ out)) }
 
-  pub commits_off : row_fits s row bytes ≡ true → s.power.on ≡ false → Commits Fit cost turn point s s row bytes Off
+  pub commits_off : row_fits s row bytes ≡ true → s.power.on ≡ false → Commits cost turn point s s row bytes Off
   commits_off ranged off = record {
-    fits = fits;
     answer = sym (cond-true _ _ _ ranged ∙ cond-false _ _ _ off);
     means = sym (cond-false _ _ _ (and_right _ _ off));
   }
 
   pub commits_on : (t : Stored) (r : Answer) → row_fits s row bytes ≡ true → s.power.on ≡ true → r ≡ commit_answer cost point s.power →
       t ≡ record { rows = cond (renewed turn s.power) (set s.rows row bytes) s.rows; power = spent cost t.power.owed s.power } →
-      Commits Fit cost turn point s t row bytes r
+      Commits cost turn point s t row bytes r
   commits_on t r ranged on answer is = record {
-    fits = fits;
     answer = answer ∙ sym (cond-true _ _ _ ranged ∙ cond-true _ _ _ on);
     means = is ∙ sym (cond-true _ _ _ (and_from _ _ ranged on));
   }
 
-module _ {Fit : Type 0} (fits : Fit) (point : CutPoint) (s : Stored) (left tear : ℕ) (junk : List ℕ) where
-  pub restarts_out : restart_fits tear junk ≡ false → Restarts Fit point s s left tear junk OutOfRange
-  restarts_out out = record { fits = fits; answer = sym (cond-false _ _ _ out); means = sym (cond-false _ _ _ out) }
+module _ (point : CutPoint) (s : Stored) (left tear : ℕ) (junk : List ℕ) where
+  pub restarts_out : restart_fits tear junk ≡ false → Restarts point s s left tear junk OutOfRange
+  restarts_out out = record { answer = sym (cond-false _ _ _ out); means = sym (cond-false _ _ _ out) }
 
   pub restarts_on : (t : Stored) (r : Answer) → restart_fits tear junk ≡ true → r ≡ restart_answer left point s.power →
       t ≡ record { rows = s.rows; power = restarted left tear t.power.owed s.power } →
-      Restarts Fit point s t left tear junk r
-  restarts_on t r ranged answer is = record { fits = fits; answer = answer ∙ sym (cond-true _ _ _ ranged); means = is ∙ sym (cond-true _ _ _ ranged) }
+      Restarts point s t left tear junk r
+  restarts_on t r ranged answer is = record { answer = answer ∙ sym (cond-true _ _ _ ranged); means = is ∙ sym (cond-true _ _ _ ranged) }
 
 -- whether a row and a buffer are in range, by the number of rows
 module _ (s : Stored) (n row : ℕ) (bytes : List ℕ) (e : length s.rows ≡ n) where

@@ -20,7 +20,6 @@ changed_store cost turn owed s row at byte = cond ((nat_lt at page_bytes && nat_
     (record { rows = cond (renewed turn s.power) (slice_set s.rows row (changed s row at byte)) s.rows; power = spent cost owed s.power })
     s
 
-pub record Changes (Fit : Type 0) (cost turn : ℕ) (point : CutPoint) (s t : Stored) (row at byte : ℕ) (r : Answer) : Type 0 where
-  pub fits : Fit
+pub record Changes (cost turn : ℕ) (point : CutPoint) (s t : Stored) (row at byte : ℕ) (r : Answer) : Type 0 where
   pub answer : r ≡ change_answer cost point s row at
   pub means : t ≡ changed_store cost turn t.power.owed s row at byte

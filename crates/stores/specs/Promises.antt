@@ -5,20 +5,17 @@ use Rattle.model.specs.declared.answer.Answer.{Answer}
 use Rattle.model.specs.declared.answer.CutPoint.{CutPoint}
 
 -- a read of a row, and the buffer before and after it
-pub record Reads (Fit : Type 0) (s t : Stored) (row : ℕ) (before after : List ℕ) (r : Answer) : Type 0 where
-  pub fits : Fit
+pub record Reads (s t : Stored) (row : ℕ) (before after : List ℕ) (r : Answer) : Type 0 where
   pub answer : r ≡ read_answer s row before
   pub bytes : after ≡ read_bytes s row before
   pub means : t ≡ s
 
 -- only what the next restart owes is the store's own
-pub record Commits (Fit : Type 0) (cost turn : ℕ) (point : CutPoint) (s t : Stored) (row : ℕ) (bytes : List ℕ) (r : Answer) : Type 0 where
-  pub fits : Fit
+pub record Commits (cost turn : ℕ) (point : CutPoint) (s t : Stored) (row : ℕ) (bytes : List ℕ) (r : Answer) : Type 0 where
   pub answer : r ≡ store_answer cost point s row bytes
   pub means : t ≡ committed cost turn t.power.owed s row bytes
 
 -- likewise
-pub record Restarts (Fit : Type 0) (point : CutPoint) (s t : Stored) (left tear : ℕ) (junk : List ℕ) (r : Answer) : Type 0 where
-  pub fits : Fit
+pub record Restarts (point : CutPoint) (s t : Stored) (left tear : ℕ) (junk : List ℕ) (r : Answer) : Type 0 where
   pub answer : r ≡ wake_answer left tear junk point s
   pub means : t ≡ awake left tear junk t.power.owed s

@@ -11,17 +11,11 @@ use std::alloc::{AllocError, Global};
 
 pub type Page = [u8; 512];
 
-const PAGE_BYTES: usize = 512;
-
 // Bytes as a page, if there are as many as a page has.
 pub fn as_page(bytes: &[u8]) -> Option<&Page>
     ensures { MatchOption result ((length bytes.now == 512) ≡ false) (λ p. (p.now ≡ bytes.now) × ((length bytes.now == 512) ≡ true)) }
 {
-    if bytes.len() == PAGE_BYTES {
-        bytes.first_chunk::<512>()
-    } else {
-        None
-    }
+    <&Page>::try_from(bytes).ok()
 }
 
 // A card that a store cannot be made on, given back as it came.
@@ -60,10 +54,9 @@ impl Card {
     pub fn blank(heap: Global, node: u8, count: u8) -> Result<Card, AllocError>
         ensures { IfOk result (λ card. medium card ≡ blank_medium node count) }
     {
-        let mut pages = Vec::with_capacity(heap, usize::from(count))?;
-        for _i in 0..count {
-            pages.push([0; 512])?;
-        }
+        let count = usize::from(count);
+        let mut pages = Vec::with_capacity(heap, count)?;
+        pages.resize(count, [0; 512])?;
         Ok(Card::new(node, pages))
     }
 
@@ -76,15 +69,7 @@ impl Card {
             node,
             ..
         } = self;
-        zero(&mut pages);
+        pages.fill([0; 512]);
         Card::new(node, pages)
-    }
-}
-
-fn zero(pages: &mut [Page])
-    ensures { pages.new ≡ replicate (length pages.old) zero_page }
-{
-    for i in 0..pages.len() {
-        pages[i] = [0; 512];
     }
 }

@@ -6,7 +6,7 @@ use model::Answer;
 
 // Makes one byte of a row new and commits the row.
 pub fn change_byte<S: Store>(store: &mut S, row: usize, at: usize, byte: u8) -> Answer
-    ensures { S.fit store.old → Changes (S.fit store.new) S.cost S.turn (S.commit_cut store.old row) (S.model store.old) (S.model store.new) row at byte result }
+    ensures { Changes S.cost S.turn (S.commit_cut store.old row) (S.model store.old) (S.model store.new) row at byte result }
 {
     let mut page = [0; 512];
     if at >= page.len() {

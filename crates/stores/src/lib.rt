@@ -1,15 +1,18 @@
 // Rows that survive a power cut at any write.
 //
 // `card` is the medium, pages and the power that writes them, and `tear` what a failing write leaves. `store` says what
-// a store is: rows of 512 bytes and power, whatever the card under it goes through. `change` uses any store.
+// a store is: rows of 512 bytes and power, whatever the card under it goes through. `supply` is the power that it comes
+// back with. `change` uses any store.
 #![tactic(auto)]
 
 mod card;
 mod change;
 mod store;
+mod supply;
 mod tear;
 
 pub use card::{Card, Page, Unfit, as_page};
 pub use change::change_byte;
 pub use store::Store;
+pub use supply::Supply;
 pub use tear::Tear;

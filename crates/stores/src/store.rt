@@ -5,14 +5,12 @@ ghost use Rattle.model.specs.Answers.{refusal};
 ghost use Rattle.model.specs.declared.answer.CutPoint.{CutPoint};
 ghost use Rattle.stores.specs.Promises.{Reads, Commits, Restarts};
 
+use crate::supply::Supply;
 use model::Answer;
 
 pub trait Store {
     // What the store means: its rows and its power.
     ghost model: { Self → Stored };
-
-    // What holds of every store since it was formatted.
-    ghost fit: { Self → Type 0 };
 
     // The writes of a commit, and the write from which on the row is new.
     ghost cost: { ℕ };
@@ -46,28 +44,28 @@ pub trait Store {
 
     // Copies a row out. A store may remember what it read.
     fn read(&mut self, row: usize, out: &mut [u8]) -> Answer
-        ensures reads { fit self.old → Reads (fit self.new) (model self.old) (model self.new) row out.old out.new result }
-        ensures cuts_stay { fit self.old → (commit_cut self.new ≡ commit_cut self.old) × (restart_cut self.new ≡ restart_cut self.old) }
+        ensures reads { Reads (model self.old) (model self.new) row out.old out.new result }
+        ensures cuts_stay { (commit_cut self.new ≡ commit_cut self.old) × (restart_cut self.new ≡ restart_cut self.old) }
         ensures home_stays { home self.new ≡ home self.old }
-        ensures refusal_changes_nothing { fit self.old → refusal result ≡ true → self.new ≡ self.old };
+        ensures refusal_changes_nothing { refusal result ≡ true → self.new ≡ self.old };
 
     // Makes a row new: all of it or, where power fails, all of it or nothing.
     fn commit(&mut self, row: usize, bytes: &[u8]) -> Answer
-        ensures commits { fit self.old → Commits (fit self.new) cost turn (commit_cut self.old row) (model self.old) (model self.new) row bytes.now result }
+        ensures commits { Commits cost turn (commit_cut self.old row) (model self.old) (model self.new) row bytes.now result }
         ensures home_stays { home self.new ≡ home self.old }
-        ensures refusal_changes_nothing { fit self.old → refusal result ≡ true → self.new ≡ self.old };
+        ensures refusal_changes_nothing { refusal result ≡ true → self.new ≡ self.old };
 
     // Turns the store on with power for so many writes, of which it takes those that it owes.
-    fn restart(&mut self, left: u32, tear: u8, junk: &[u8]) -> Answer
-        ensures restarts { fit self.old → Restarts (fit self.new) (restart_cut self.old left) (model self.old) (model self.new) left tear junk.now result }
+    fn restart(&mut self, supply: Supply<'_>) -> Answer
+        ensures restarts { Restarts (restart_cut self.old supply.entry.left) (model self.old) (model self.new) supply.entry.left supply.entry.tear supply.entry.junk.now result }
         ensures home_stays { home self.new ≡ home self.old }
-        ensures refusal_changes_nothing { fit self.old → refusal result ≡ true → self.new ≡ self.old };
+        ensures refusal_changes_nothing { refusal result ≡ true → self.new ≡ self.old };
 
     ghost turn_counts: { 1 ≤ turn };
 
     ghost turn_within: { turn ≤ cost };
 
-    ghost owes: { (s : Self) → fit s → (model s).power.owed ≤ bound };
+    ghost owes: { (s : Self) → (model s).power.owed ≤ bound };
 
     // A cut names the store's own node.
     ghost cut_at_home: { (s : Self) (row : ℕ) → (commit_cut s row).node ≡ home s };

@@ -1,6 +1,9 @@
 // What the write that power fails at leaves in its page.
-ghost use Rattle.std.specs.Prelude.{◌≡◌, ◌<◌, MatchOption};
+ghost use Rattle.std.specs.Prelude.{◌≡◌, ◌<◌, MatchResult};
+ghost use Rattle.model.specs.declared.answer.Answer.TheVariants.{OutOfRange};
 ghost use Rattle.stores.specs.Tears.{tear_number};
+
+use model::Answer;
 
 #[derive(Clone, Copy, PartialEq, Eq, Debug)]
 pub enum Tear {
@@ -9,16 +12,18 @@ pub enum Tear {
     Junk,
 }
 
-impl Tear {
-    // The tear of a number, which is 0, 1 or 2.
-    pub fn of(number: u8) -> Option<Tear>
-        ensures { MatchOption result (2 < number) (λ tear. tear_number tear ≡ number) }
-    {
+// The tear of a number, which is 0, 1 or 2.
+impl TryFrom<u8> for Tear {
+    type Error = Answer;
+
+    ghost try_from_gives = { λ number r. MatchResult r (λ tear. tear_number tear ≡ number) (λ e. (2 < number) × (e ≡ OutOfRange)) };
+
+    fn try_from(number: u8) -> Result<Tear, Answer> {
         match number {
-            0 => Some(Tear::Old),
-            1 => Some(Tear::New),
-            2 => Some(Tear::Junk),
-            _ => None,
+            0 => Ok(Tear::Old),
+            1 => Ok(Tear::New),
+            2 => Ok(Tear::Junk),
+            _ => Err(Answer::OutOfRange),
         }
     }
 }

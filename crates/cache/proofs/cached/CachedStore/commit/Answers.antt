@@ -1,9 +1,10 @@
 -- The copy is refreshed with the bytes that were committed.
-use Rattle.std.proofs.Common.{ap}
+use Rattle.std.proofs.Common.{refl, ap}
 use Rattle.std.proofs.lemmas.Bool.{both_ways}
 use Rattle.model.specs.Answers.{refusal}
 use Rattle.cache.specs.Copies.{kept}
-use Rattle.cache.proofs.Refreshing.{refreshed, kept_holds, becomes, held}
+use Rattle.cache.proofs.Same.{same}
+use Rattle.cache.proofs.Refreshing.{kept_holds, held}
 use Rattle.cache.proofs.cached.CachedStore.commit.Goals as goal
 
 pub returns-in-Done-Some : goal.returns-in-Done-Some
@@ -18,12 +19,11 @@ returns-in-Done-Some g c =
     let done = c.in-Done-Some.is-0 in
     let is = ap (kept places row) c.in-Done-Some.ensures.0 in
     record {
-      commits = λ h.
-          let w = c.commit-answer.ensures.commits h.0 in
-          let agrees = refreshed g.S.Store.cost g.S.Store.turn t.power.owed (g.S.Store.commit_cut c.args.self.now.below row) s t places row bytes four
-          g.met.S.Store.turn_within (cc) w.means h.1 in
-          record { fits = (w.fits, becomes t agrees (cc)); answer = w.answer; means = w.means };
+      commits = c.commit-answer.ensures.commits;
       home_stays = c.commit-answer.ensures.home_stays;
-      refusal_changes_nothing = λ h r. absurd (both_ways (refusal c.commit-answer.result) (ap refusal done) r);
-      committed_is_at_hand = λ h d. held row (cc) (kept_holds places row bytes four);
+      refusal_changes_nothing = λ r. absurd (both_ways (refusal c.commit-answer.result) (ap refusal done) r);
+      committed_is_at_hand = λ d. held row (cc) (kept_holds places row bytes four);
     }
+
+pub returns-2-clause-refusal_changes_nothing : goal.returns-2-clause-refusal_changes_nothing
+returns-2-clause-refusal_changes_nothing g c = λ r. same _ _ (c.commit-answer.ensures.refusal_changes_nothing r) refl

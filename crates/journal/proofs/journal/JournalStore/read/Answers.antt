@@ -13,11 +13,11 @@ returns-then-row-ge-ROWS c =
     let m = medium c.args.self.now.card in
     let n = length-rows (row_in m.pages) row_count in
     record {
-      reads = λ s. reads_out s (meaning m) c.args.row c.args.out.now
+      reads = reads_out (meaning m) c.args.row c.args.out.now
           (⊎_elim (no_row (meaning m) row_count c.args.row c.args.out.now n) (λ h. no_page (meaning m) row_count c.args.row c.args.out.now n h.1) c.then-row-ge-ROWS.either);
-      cuts_stay = λ s. (refl, refl);
+      cuts_stay = (refl, refl);
       home_stays = refl;
-      refusal_changes_nothing = λ s h. refl;
+      refusal_changes_nothing = λ h. refl;
     }
 
 pub returns-then-not-is_on : goal.returns-then-not-is_on
@@ -25,11 +25,11 @@ returns-then-not-is_on c =
     let m = medium c.args.self.now.card in
     let n = length-rows (row_in m.pages) row_count in
     record {
-      reads = λ s. reads_off s (meaning m) c.args.row c.args.out.now
+      reads = reads_off (meaning m) c.args.row c.args.out.now
           (row_fits_lem (meaning m) row_count c.args.row c.args.out.now n c.if-row-ge-ROWS.false c.if-out-ne512.false) (sym c.if-not-is_on.ensures);
-      cuts_stay = λ s. (refl, refl);
+      cuts_stay = (refl, refl);
       home_stays = refl;
-      refusal_changes_nothing = λ s h. refl;
+      refusal_changes_nothing = λ h. refl;
     }
 
 pub returns : goal.returns
@@ -37,10 +37,10 @@ returns c =
     let m = medium c.args.self.now.card in
     let n = length-rows (row_in m.pages) row_count in
     record {
-      reads = λ s. reads_done s (meaning m) c.args.row c.args.out.now c.copy_from_slice.new.self
+      reads = reads_done (meaning m) c.args.row c.args.out.now c.copy_from_slice.new.self
           (row_fits_lem (meaning m) row_count c.args.row c.args.out.now n c.if-row-ge-ROWS.false c.if-out-ne512.false) (sym c.if-not-is_on.ensures)
-          (c.copy_from_slice.ensures.after ∙ c.in-Some.ensures ∙ ap (λ i. get_or m.pages i []) c.home_page.ensures ∙ sym (at_home m.pages c.args.row (s.settled (sym c.if-not-is_on.ensures))) ∙ sym (row_at (row_in m.pages) row_count c.args.row c.if-row-ge-ROWS.false));
-      cuts_stay = λ s. (refl, refl);
+          (c.copy_from_slice.ensures.after ∙ c.in-Some.ensures ∙ ap (λ i. get_or m.pages i []) c.home_page.ensures ∙ sym (at_home m.pages c.args.row (c.args.self.now.sound.settled (sym c.if-not-is_on.ensures))) ∙ sym (row_at (row_in m.pages) row_count c.args.row c.if-row-ge-ROWS.false));
+      cuts_stay = (refl, refl);
       home_stays = refl;
-      refusal_changes_nothing = λ s h. absurd (false≢true h);
+      refusal_changes_nothing = λ h. absurd (false≢true h);
     }

@@ -4,11 +4,11 @@ use Rattle.std.proofs.lemmas.Bool.{cond-false}
 use Rattle.stores.specs.Cards.{medium, written_both}
 use Rattle.journal.specs.Layout.{lasting, begun_answer}
 use Rattle.journal.proofs.Committing.{not_lasting}
-use Rattle.journal.proofs.journal.Journal.write_row.Goals as goal
+use Rattle.journal.proofs.journal.write_row.Goals as goal
 
 pub returns-in_default : goal.returns-in_default
 returns-in_default c =
-    let m = medium c.args.self.now.card in
+    let m = medium c.args.card.now in
     let bytes = c.args.page.now in
     let f : lasting m c.args.row bytes ≡ false = not_lasting (begun_answer m c.args.row bytes) (λ e. c.in_default.not-Done (c.write_both.ensures.answer ∙ e)) in
     record {
