@@ -10,7 +10,7 @@ use Rattle.names.specs.Changes.{Added}
 use Rattle.names.proofs.Listing.{taken, same_is}
 use Rattle.names.proofs.Adding.{added_holds}
 use Rattle.bloom.specs.Bits.{bit_of, all_set, with_four}
-use Rattle.bloom.specs.Layer.{LayerFit}
+use Rattle.bloom.specs.Marked.{Marked}
 
 -- bits that are set stay set
 four_stay : (bits : ℕ → Bool) (s : ℕ) (n : Name) (q : ℕ) → bits q ≡ true → with_four bits s n q ≡ true
@@ -37,11 +37,8 @@ all_set_lem bits s n =
     (and_from _ _ (past (bit_of s n 3) (bit_of s n 2) _ (own (bit_of s n 2) _)) (own (bit_of s n 3) _)))
 
 -- an add that was done, with the bits set after it
-pub added_fit : {F G : Type 0} {m after : Meaning} {s : ℕ} {n : Name} {r : Answer} (bits lit : ℕ → Bool) → LayerFit F m bits → Added G m s n r after → r ≡ Done → lit ≡ with_four bits s n → LayerFit G after lit
-added_fit {F} {G} {m} {after} {s} {n} {r} bits lit f a done e = record {
-  below = a.fit;
-  marked = λ t k h. subst (λ bs. all_set bs t k ≡ true) (sym e) (marked t k (sym (ap (λ hs. hs t k) held) ∙ h));
-}
+pub added_marked : {m after : Meaning} {s : ℕ} {n : Name} {r : Answer} (bits lit : ℕ → Bool) → Marked m bits → Added m s n r after → r ≡ Done → lit ≡ with_four bits s n → Marked after lit
+added_marked {m} {after} {s} {n} {r} bits lit f a done e t k h = subst (λ bs. all_set bs t k ≡ true) (sym e) (marked t k (sym (ap (λ hs. hs t k) held) ∙ h))
   where
     held : after.holds ≡ (λ t k. same_taken (taken s n) t k || m.holds t k)
     held = ap (λ (x : Meaning). x.holds) a.means ∙ added_holds m s n (λ full. never (sym done ∙ a.answer ∙ full))
@@ -54,5 +51,5 @@ added_fit {F} {G} {m} {after} {s} {n} {r} bits lit f a done e = record {
         elim (or_cases (same_taken (taken s n) t k) (m.holds t k) h) [
           | inl same ↦
               subst (λ (p : Taken). all_set (with_four bits s n) p.stop p.name ≡ true) (same_is (taken s n) t k same) (all_set_lem bits s n)
-          | inr old ↦ all_stay bits s n t k (f.marked t k old)
+          | inr old ↦ all_stay bits s n t k (f t k old)
         ]

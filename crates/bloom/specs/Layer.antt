@@ -1,29 +1,22 @@
 -- What the Bloom layer is, over any name set, and what each of its calls does to its bits and its count.
 -- Assumes nothing.
-use Rattle.std.specs.Prelude.{◌≡◌, ℕ, ◌+◌, min, Bool, true, false, cond}
+use Rattle.std.specs.Prelude.{ℕ, ◌+◌, min, Bool, true, false, cond}
 use Rattle.model.specs.declared.answer.Answer.{Answer}
 use Rattle.model.specs.declared.answer.Answer.TheVariants.{Done, OutOfRange, Off, Late, Seen, Early, Over, Full, NoRoom, Cut, Nothing, LinkFull, NoMessage, NotOldest}
 use Rattle.model.specs.declared.record.Name.{Name}
 use Rattle.names.specs.Held.{Meaning}
+use Rattle.names.specs.declared.set.NameSet.{Ghosts}
 use Rattle.bloom.specs.Bits.{all_set, with_four}
 use Rattle.bloom.specs.Filter.{bits_in}
 use Rattle.bloom.specs.declared.layer.Bloom.{Bloom}
 
--- the set below is fit, and every name that it holds has its four bits set
-pub record LayerFit (Below : Type 0) (m : Meaning) (bits : ℕ → Bool) : Type 0 where
-  pub below : Below
-  pub marked : (s : ℕ) (n : Name) → m.holds s n ≡ true → all_set bits s n ≡ true
-
 -- which bits are set
-abbrev pub layer_bits : {N : Type 0} → Bloom N → ℕ → Bool
+abbrev pub layer_bits : {N : Type 0} {G : Ghosts N} → Bloom N G → ℕ → Bool
 layer_bits b = bits_in b.filter
 
--- the layer is fit, and means what the set below means
-abbrev pub layer_fit : {N : Type 0} → (N → Type 0) → (N → Meaning) → Bloom N → Type 0
-layer_fit fit means b = LayerFit (fit b.set) (means b.set) (layer_bits b)
-
-abbrev pub layer_meaning : {N : Type 0} → (N → Meaning) → Bloom N → Meaning
-layer_meaning means b = means b.set
+-- the layer means what the set below means
+abbrev pub layer_meaning : {N : Type 0} {G : Ghosts N} → Bloom N G → Meaning
+layer_meaning {N} {G} b = G.meaning b.set
 
 -- one question more, up to the last number
 abbrev pub one_more : ℕ → ℕ

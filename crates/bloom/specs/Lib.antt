@@ -1,3 +1,4 @@
 pub mod Bits
 pub mod Filter
+pub mod Marked
 pub mod Layer

@@ -2,14 +2,15 @@
 ghost use Rattle.std.specs.Prelude.{◌≡◌, ◌+◌, ◌*◌, ◌%◌};
 ghost use Rattle.bloom.specs.Bits.{mixed, four_bits};
 
-use model::Name;
+use names::Taken;
 
 const BITS: u32 = 16_384;
 
 // The name and the stop as one number.
-fn mix(stop: u16, name: Name) -> u32
-    ensures { result ≡ mixed stop name }
+fn mix(taken: Taken) -> u32
+    ensures { result ≡ mixed taken.stop taken.name }
 {
+    let Taken { stop, name } = taken;
     name.serial
         .wrapping_mul(2_654_435_761)
         .wrapping_add(name.time.wrapping_mul(40_503))
@@ -25,10 +26,10 @@ fn step(a: u32, b: u32, i: u32) -> usize
 }
 
 // The bits of a name taken at a stop, among 16,384.
-pub fn bits_of(stop: u16, name: Name) -> [usize; 4]
-    ensures { result ≡ four_bits stop name }
+pub fn bits_of(taken: Taken) -> [usize; 4]
+    ensures { result ≡ four_bits taken.stop taken.name }
 {
-    let a = mix(stop, name);
+    let a = mix(taken);
     let b = a.rotate_left(16) | 1;
     [step(a, b, 0), step(a, b, 1), step(a, b, 2), step(a, b, 3)]
 }

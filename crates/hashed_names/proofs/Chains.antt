@@ -7,8 +7,12 @@ use Rattle.names.specs.declared.taken.Taken.{Taken}
 use Rattle.names.specs.Held.{same_taken, listed}
 use Rattle.names.proofs.Listing.{taken, is_same}
 use Rattle.hashed_names.specs.Probing.{home_of, place_of, stored, at, Reached, Chained}
-use Rattle.hashed_names.specs.Places.{FreeAt, Crowded}
+use Rattle.hashed_names.specs.declared.places.Places.{Places}
+use Rattle.hashed_names.specs.Places.{slots_of, FreeAt, Crowded}
 use Rattle.hashed_names.proofs.Storing.{stored_at, at_stored, length-crowded, at_none}
+
+pub long : (p : Places) → length (slots_of p) ≡ 2048
+long p = sym p.slots.ok.0 ∙ p.long
 
 -- a place that another name has taken
 abbrev pub Other : Option Taken → ℕ → Name → Type 0
@@ -125,6 +129,16 @@ module _ (xs : List (Option Taken)) (s : ℕ) (n : Name) (h k : ℕ) (size : len
 
   pub stored_here : (p : Taken) → o ≡ Some p → same_taken p s n ≡ true → listed (stored xs) s n ≡ true
   stored_here p e same = at_stored xs s n ((h + k) % 2048) p (sym looked ∙ e) same
+
+  pub passed_more : (p : Taken) → Passed xs s n k → o ≡ Some p → same_taken p s n ≡ false → Passed xs s n (k + 1)
+  passed_more p passed e other j l =
+      elim (cases_eq j k) [
+        | inl is ↦ subst (λ i. Other (at xs (place_of s n i)) s n) (sym is) (subst (λ x. Other x s n) (sym here) other)
+        | inr ne ↦ passed j (omega arith)
+      ]
+    where
+      here : at xs (place_of s n k) ≡ Some p
+      here = sym (ap (λ x. at xs ((x + k) % 2048)) home) ∙ sym looked ∙ e
 
 pub all_passed : (xs : List (Option Taken)) (s : ℕ) (n : Name) (k : ℕ) → 2048 ≤ k → Passed xs s n k → length xs ≡ 2048 → Crowded xs s n
 all_passed xs s n k l passed size = ends_nowhere xs s n home (λ j m. passed j (omega arith)) size

@@ -1,20 +1,26 @@
 -- Names that go in, and names that are left out: the table stays sound.
 use Rattle.std.proofs.Common.{◌≡◌, ℕ, ◌+◌, ◌<◌, ◌≤◌, Bool, true, false, cond, not, ◌&&◌, ◌||◌, List, [], ◌∷◌, ◌++◌, length, take, set, replicate, Some, None, Option, sym, refl, ap, ◌∙◌, subst, inl, inr, arith}
 use mathlib.Core.Path.{fun_ext}
+use Rattle.std.proofs.Math.Logic.{∥∥₁_elim, ∥∥₁_prop}
+use Rattle.std.specs.Coded.{Coded-set, coded_bool}
+use Rattle.std.specs.List.{list_any}
 use Rattle.std.proofs.lemmas.List.{take_more, take_all}
+use Rattle.std.proofs.lemmas.List.Folds.{list_any_at}
+use Rattle.std.proofs.lemmas.Bool.Decides.{nat_tests}
 use Rattle.std.proofs.lemmas.Bool.{both_ways, cases_Bool, and_from, and_left, and_parts, not_from_false}
-use Rattle.model.specs.declared.answer.Answer.TheVariants.{Done}
+use Rattle.model.specs.declared.answer.Answer.TheVariants.{Done, Full}
 use Rattle.model.specs.declared.record.Name.{Name}
 use Rattle.names.specs.declared.taken.Taken.{Taken}
-use Rattle.names.specs.Held.{Apart, same_taken, listed, most_taken}
-use Rattle.names.specs.Changes.{with_name, is_below, without_below, Added, Dropped, Cleared}
+use Rattle.names.specs.Held.{Meaning, Apart, same_taken, listed, most_taken}
+use Rattle.names.specs.Changes.{with_name, is_below, without_below, Added, Cleared}
 use Rattle.names.proofs.Listing.{taken, same_is, listed_append}
 use Rattle.names.proofs.Counting.{covers}
 use Rattle.names.proofs.Adding.{added_done}
-use Rattle.hashed_names.specs.Probing.{place_count, stored, at}
+use Rattle.hashed_names.specs.Probing.{stored, at}
 use Rattle.hashed_names.specs.Places.{FreeAt}
 use Rattle.hashed_names.specs.Inserting.{Inserted}
-use Rattle.hashed_names.specs.Table.{Sound, HashedFit}
+use Rattle.hashed_names.specs.Sound.{Sound}
+use Rattle.hashed_names.specs.Apart.{sound_counted}
 use Rattle.hashed_names.specs.Rebuilding.{Rebuilt}
 use Rattle.hashed_names.proofs.Storing.{stored_at, listed_put, length-put, apart_put, stored_none, stored_push_none, stored_push_some}
 use Rattle.hashed_names.proofs.Chains.{chained_put, chained_none}
@@ -23,11 +29,11 @@ use Rattle.hashed_names.proofs.Chains.{chained_put, chained_none}
 sound_none : (k : ℕ) → Sound (replicate k None) 0
 sound_none k = record { chained = chained_none k; apart = subst Apart (sym (stored_none k)) tt; counted = ap length (stored_none k) }
 
-pub cleared : {xs : List (Option Taken)} (k : ℕ) → xs ≡ replicate k None → Cleared (HashedFit xs 0) (record { holds = listed (stored xs); size = 0 })
-cleared {xs} k e = record {
-  fit = record { sound = subst (λ zs. Sound zs 0) (sym e) (sound_none k); few = omega arith };
-  means = λ i. record { holds = none i; size = 0 };
-}
+pub cleared_sound : {xs : List (Option Taken)} (k : ℕ) → xs ≡ replicate k None → ∥ Sound xs 0 ∥₁
+cleared_sound {xs} k e = ∣ subst (λ zs. Sound zs 0) (sym e) (sound_none k) ∣₁
+
+pub cleared : {xs : List (Option Taken)} (k : ℕ) → xs ≡ replicate k None → Cleared (record { holds = listed (stored xs); size = 0 })
+cleared {xs} k e = record { means = λ i. record { holds = none i; size = 0 } }
   where
     none : listed (stored xs) ≡ listed []
     none = ap (λ zs. listed (stored zs)) e ∙ ap listed (stored_none k)
@@ -54,29 +60,52 @@ sound_inserted {xs} {ys} {count} {p} {r} s h = record {
   counted = h.counted ∙ ap (λ n. cond r (n + 1) n) s.counted;
 }
 
-pub added : {xs ys : List (Option Taken)} {count s i : ℕ} {n : Name} → length xs ≡ 2048 → HashedFit xs count → FreeAt xs s n i → count < most_taken → ys ≡ set xs i (Some (taken s n)) → Added (HashedFit ys (count + 1)) (record { holds = listed (stored xs); size = count }) s n Done (record { holds = listed (stored ys); size = count + 1 })
-added {xs} {ys} {count} {s} {i} {n} size f free few e =
-    let put = inserted size free e in
-    let room : length (stored xs) < place_count = omega (arith, f.sound.counted) in
-    added_done _ _ s n
-    (record { sound = sound_inserted f.sound put; few = omega arith })
-    (free.absent f.sound.chained) few (put.held f.sound.chained room) refl
+-- the name that takes a free place is not in
+pub absent : {xs : List (Option Taken)} {count s i : ℕ} {n : Name} → ∥ Sound xs count ∥₁ → FreeAt xs s n i → listed (stored xs) s n ≡ false
+absent sound free = ∥∥₁_elim sound (Coded-set coded_bool _ _) (λ f. free.absent f.chained)
 
--- a place that is free, or whose name is not one of the stop's below the floor
-abbrev pub Stays : ℕ → ℕ → Option Taken → Type 0
-Stays s floor None = Unit {0}
-Stays s floor (Some p) = is_below s floor p ≡ false
+-- a table that has no room
+pub refused : {m : Meaning} {s : ℕ} {n : Name} → m.holds s n ≡ false → most_taken ≤ m.size → Added m s n Full m
+refused {m} {s} {n} none full = record {
+  answer = grind (arith, nat_tests, none, full);
+  means = grind (arith, nat_tests, none, full);
+}
+
+module _ {xs ys : List (Option Taken)} {count s i : ℕ} {n : Name} (size : length xs ≡ 2048) (sound : ∥ Sound xs count ∥₁) (free : FreeAt xs s n i) (few : count < most_taken) (e : ys ≡ set xs i (Some (taken s n))) where
+  put : Inserted xs (taken s n) true ys
+  put = inserted size free e
+
+  pub added_sound : ∥ Sound ys (count + 1) ∥₁
+  added_sound = ∥∥₁_elim sound ∥∥₁_prop (λ f. ∣ sound_inserted f put ∣₁)
+
+  pub added : Added (record { holds = listed (stored xs); size = count }) s n Done (record { holds = listed (stored ys); size = count + 1 })
+  added = added_done (record { holds = listed (stored xs); size = count }) (record { holds = listed (stored ys); size = count + 1 }) s n (absent sound free) few held refl
+    where
+      held : listed (stored ys) ≡ with_name (listed (stored xs)) s n
+      held = fun_ext (λ t. fun_ext (λ k. ∥∥₁_elim sound (Coded-set coded_bool _ _) (λ f. ap (λ hs. hs t k) (put.held f.chained (omega (arith, f.counted))))))
+
+-- a place whose name is one of the stop's below the floor
+abbrev pub goes : ℕ → ℕ → Option Taken → Bool
+goes s floor None = false
+goes s floor (Some p) = is_below s floor p
 
 -- where all names stay, nothing is left out
-pub all_stay : (xs : List (Option Taken)) (s floor : ℕ) → ((j : ℕ) → j < length xs → Stays s floor (at xs j)) → listed (stored xs) ≡ without_below (listed (stored xs)) s floor
+pub all_stay : (xs : List (Option Taken)) (s floor : ℕ) → list_any (goes s floor) xs ≡ false → listed (stored xs) ≡ without_below (listed (stored xs)) s floor
 all_stay xs s floor f = fun_ext (λ t. fun_ext (λ k. each t k))
   where
+    stays : (j : ℕ) → j < length xs → goes s floor (at xs j) ≡ false
+    stays j l =
+        elim (cases_Bool (goes s floor (at xs j))) [
+          | inl e ↦ absurd (both_ways _ f (list_any_at (goes s floor) xs j None l e))
+          | inr e ↦ e
+        ]
+
     each : (t : ℕ) (k : Name) → listed (stored xs) t k ≡ (listed (stored xs) t k && not (is_below s floor (taken t k)))
     each t k =
         elim (cases_Bool (listed (stored xs) t k)) [
           | inl e ↦
               let found = stored_at xs t k e in
-              let stays : is_below s floor (taken t k) ≡ false = subst (Stays s floor) found.2 (f found.0 found.1) in
+              let stays : is_below s floor (taken t k) ≡ false = subst (λ o. goes s floor o ≡ false) found.2 (stays found.0 found.1) in
               e ∙ sym (and_from _ _ e (not_from_false _ stays))
           | inr e ↦ e ∙ sym (and_left _ (not (is_below s floor (taken t k))) e)
         ]
@@ -156,12 +185,9 @@ gone_through {xs} {ys} {s} {floor} {i} {count} g l = record {
   held = g.held ∙ ap (λ zs. without_below (listed (stored zs)) s floor) (take_all i xs l);
 }
 
--- the table after names were left out
-pub dropped : {xs ys : List (Option Taken)} {s floor count left : ℕ} → HashedFit xs count → Rebuilt xs s floor ys left → Dropped (HashedFit ys left) (record { holds = listed (stored xs); size = count }) s floor (record { holds = listed (stored ys); size = left })
-dropped {xs} {ys} {s} {floor} {count} {left} f r = record {
-  fit = record { sound = r.sound; few = omega (arith, fewer, f.few, f.sound.counted, r.sound.counted) };
-  held = r.held;
-}
-  where
-    fewer : length (stored ys) ≤ length (stored xs)
-    fewer = covers (stored ys) (stored xs) r.sound.apart (λ t k h. (and_parts (listed (stored xs) t k) _ (sym (ap (λ hs. hs t k) r.held) ∙ h)).0)
+-- no more names are left than there were
+pub fewer : {xs ys : List (Option Taken)} {s floor count left : ℕ} → ∥ Sound xs count ∥₁ → Rebuilt xs s floor ys left → left ≤ count
+fewer {xs} {ys} {s} {floor} {count} {left} f r =
+    let long = sound_counted f in
+    let less = covers (stored ys) (stored xs) r.sound.apart (λ t k h. (and_parts (listed (stored xs) t k) _ (sym (ap (λ hs. hs t k) r.held) ∙ h)).0) in
+    omega (arith, less, long, r.sound.counted)

@@ -1,16 +1,11 @@
 -- What is stored in places, as one of them is taken, and place by place.
-use Rattle.std.proofs.Common.{◌≡◌, ℕ, zero, suc, ◌+◌, ◌<◌, ◌≤◌, Bool, true, false, ◌||◌, List, [], ◌∷◌, ◌++◌, length, set, replicate, is_some, Some, None, Option, sym, refl, ap, ◌∙◌, subst, inl, inr, arith}
+use Rattle.std.proofs.Common.{◌≡◌, ℕ, zero, suc, ◌+◌, ◌<◌, ◌≤◌, true, false, ◌||◌, List, [], ◌∷◌, ◌++◌, length, set, replicate, is_some, Some, None, Option, sym, refl, ap, ◌∙◌, subst, inl, inr, arith}
 use Rattle.std.proofs.lemmas.Bool.{or_cases, or_left, or_right, or_from, or_parts, both_ways, cases_Bool}
 use Rattle.model.specs.declared.record.Name.{Name}
 use Rattle.names.specs.declared.taken.Taken.{Taken}
 use Rattle.names.specs.Held.{Apart, same_taken, listed}
-use Rattle.names.proofs.Listing.{taken, same_is, is_same}
+use Rattle.names.proofs.Listing.{or_swap, taken, same_is, is_same}
 use Rattle.hashed_names.specs.Probing.{stored, at}
-
-swap : (a b c : Bool) → (a || (b || c)) ≡ (b || (a || c))
-swap true true c = refl
-swap true false c = refl
-swap false b c = refl
 
 -- what is stored stands at some place
 pub stored_at : (xs : List (Option Taken)) (s : ℕ) (n : Name) → listed (stored xs) s n ≡ true → (i : ℕ) × (i < length xs) × (at xs i ≡ Some (taken s n))
@@ -39,7 +34,7 @@ listed_put (None ∷ xs) zero p l e s n = refl
 listed_put (None ∷ xs) (suc i) p l e s n = listed_put xs i p (omega arith) e s n
 listed_put (Some q ∷ xs) zero p l e s n = absurd (let z : ◌≡◌ {A = ℕ} 0 1 = cc in omega arith)
 listed_put (Some q ∷ xs) (suc i) p l e s n =
-    ap (λ b. same_taken q s n || b) (listed_put xs i p (omega arith) e s n) ∙ swap (same_taken q s n) (same_taken p s n) (listed (stored xs) s n)
+    ap (λ b. same_taken q s n || b) (listed_put xs i p (omega arith) e s n) ∙ or_swap (same_taken q s n) (same_taken p s n) (listed (stored xs) s n)
 
 pub length-put : (xs : List (Option Taken)) (i : ℕ) (p : Taken) → i < length xs → at xs i ≡ None → length (stored (set xs i (Some p))) ≡ length (stored xs) + 1
 length-put [] i p l e = absurd (omega arith)

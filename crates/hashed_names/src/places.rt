@@ -12,7 +12,8 @@ pub struct Places {
     ghost long: { vec_len slots ≡ 2048 },
 }
 
-// Where a search ends: at the name, at the free place that would take it, or nowhere, after all places.
+// Where a search ends: at the name, at the free place that would take it, or nowhere, after all places. An `Option` or
+// a `Result` has no third case.
 #[derive(Clone, Copy)]
 pub enum Spot {
     Here,

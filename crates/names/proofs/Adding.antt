@@ -12,7 +12,7 @@ use Rattle.names.specs.Held.{Meaning, same_taken, most_taken}
 use Rattle.names.specs.Changes.{add_answer, after_add, with_name, grown, Added}
 use Rattle.model.specs.Names.{named}
 use Rattle.names.specs.Fill.{with_names, AddedAll}
-use Rattle.names.proofs.Listing.{taken, same_is}
+use Rattle.names.proofs.Listing.{or_swap, taken, same_is}
 
 -- to put in what is held changes nothing
 pub with_held : (h : ℕ → Name → Bool) (s : ℕ) (n : Name) → h s n ≡ true → with_name h s n ≡ h
@@ -29,11 +29,10 @@ with_held h s n e = fun_ext (λ t. fun_ext (λ k. at t k))
         ]
 
 -- a table that has put in what it did not hold
-pub added_done : {Fit : Type 0} (m after : Meaning) (s : ℕ) (n : Name) → Fit → m.holds s n ≡ false → m.size < most_taken → after.holds ≡ with_name m.holds s n → after.size ≡ m.size + 1 → Added Fit m s n Done after
-added_done m after s n f none few held one =
+pub added_done : (m after : Meaning) (s : ℕ) (n : Name) → m.holds s n ≡ false → m.size < most_taken → after.holds ≡ with_name m.holds s n → after.size ≡ m.size + 1 → Added m s n Done after
+added_done m after s n none few held one =
     let below = lt-ltb m.size most_taken few in
     record {
-      fit = f;
       answer = sym (cond-false (m.holds s n) Seen (cond (ltb m.size most_taken) Done Full) none ∙ cond-true (ltb m.size most_taken) Done Full below);
       means =
           (λ i. record { holds = held i; size = one i })
@@ -81,19 +80,13 @@ room_below m s n l full =
     never' e = let z : ◌≡◌ {A = ℕ} 0 1 = cc in omega arith
 
 -- the first i names of the list are in
-pub record Filling (Fit : Type 0) (m : Meaning) (s : ℕ) (ns : List Name) (i : ℕ) (after : Meaning) : Type 0 where
-  pub fit : Fit
+pub record Filling (m : Meaning) (s : ℕ) (ns : List Name) (i : ℕ) (after : Meaning) : Type 0 where
   pub held : after.holds ≡ with_names m.holds s (take i ns)
   pub few : after.size ≤ m.size + i
 
 named_push : (ks : List Name) (n k : Name) → named (ks ++ n ∷ []) k ≡ (same_name n k || named ks k)
 named_push [] n k = refl
-named_push (x ∷ xs) n k = ap (λ b. same_name x k || b) (named_push xs n k) ∙ swap (same_name x k) (same_name n k) (named xs k)
-  where
-    swap : (a b c : Bool) → (a || (b || c)) ≡ (b || (a || c))
-    swap true true c = refl
-    swap true false c = refl
-    swap false b c = refl
+named_push (x ∷ xs) n k = ap (λ b. same_name x k || b) (named_push xs n k) ∙ or_swap (same_name x k) (same_name n k) (named xs k)
 
 one_more : (h : ℕ → Name → Bool) (s : ℕ) (ns : List Name) (i : ℕ) (n d : Name) → i < length ns → n ≡ get_or ns i d → with_name (with_names h s (take i ns)) s n ≡ with_names h s (take (i + 1) ns)
 one_more h s ns i n d l e = fun_ext (λ t. fun_ext (λ k. at t k))
@@ -111,16 +104,15 @@ one_more h s ns i n d l e = fun_ext (λ t. fun_ext (λ k. at t k))
         joined (eqb s t) (same_name n k) (named (take i ns) k) (h t k)
         ∙ ap (λ b. (eqb s t && b) || h t k) (sym (ap (λ ks. named ks k) first ∙ named_push (take i ns) n k))
 
-pub filling_none : {Fit : Type 0} (m : Meaning) (s : ℕ) (ns : List Name) → Fit → Filling Fit m s ns 0 m
-filling_none m s ns f = record { fit = f; held = fun_ext (λ t. fun_ext (λ k. none (eqb s t) (m.holds t k))); few = omega arith }
+pub filling_none : (m : Meaning) (s : ℕ) (ns : List Name) → Filling m s ns 0 m
+filling_none m s ns = record { held = fun_ext (λ t. fun_ext (λ k. none (eqb s t) (m.holds t k))); few = omega arith }
   where
     none : (b x : Bool) → x ≡ ((b && false) || x)
     none true x = refl
     none false x = refl
 
-pub filling_more : {F G : Type 0} {m before after : Meaning} {s i : ℕ} {ns : List Name} {n : Name} {r : Answer} → (d : Name) → Filling F m s ns i before → Added G before s n r after → (r ≡ Full → ⊥) → i < length ns → n ≡ get_or ns i d → Filling G m s ns (i + 1) after
-filling_more {F} {G} {m} {before} {after} {s} {i} {ns} {n} d f a ne l e = record {
-  fit = a.fit;
+pub filling_more : {m before after : Meaning} {s i : ℕ} {ns : List Name} {n : Name} {r : Answer} → (d : Name) → Filling m s ns i before → Added before s n r after → (r ≡ Full → ⊥) → i < length ns → n ≡ get_or ns i d → Filling m s ns (i + 1) after
+filling_more {m} {before} {after} {s} {i} {ns} {n} d f a ne l e = record {
   held =
       ap (λ (k : Meaning). k.holds) a.means
       ∙ added_holds before s n (λ full. ne (a.answer ∙ full))
@@ -129,17 +121,15 @@ filling_more {F} {G} {m} {before} {after} {s} {i} {ns} {n} d f a ne l e = record
   few = let up = added_size before s n in let is = ap (λ (k : Meaning). k.size) a.means in omega (arith, up, is, f.few);
 }
 
-pub filled : {F : Type 0} {m after : Meaning} {s i : ℕ} {ns : List Name} → Filling F m s ns i after → i ≤ length ns → length ns ≤ i → AddedAll F m s ns Done after
-filled {F} {m} {after} {s} {i} {ns} f l g = record {
-  fit = f.fit;
+pub filled : {m after : Meaning} {s i : ℕ} {ns : List Name} → Filling m s ns i after → i ≤ length ns → length ns ≤ i → AddedAll m s ns Done after
+filled {m} {after} {s} {i} {ns} f l g = record {
   held = λ _. f.held ∙ ap (with_names m.holds s) (take_all i ns g);
   done = λ _. refl;
   few = omega (arith, f.few);
 }
 
-pub overfull : {F G : Type 0} {m before after : Meaning} {s i : ℕ} {ns : List Name} {n : Name} {r : Answer} → Filling F m s ns i before → Added G before s n r after → r ≡ Full → i < length ns → AddedAll G m s ns Full after
-overfull {F} {G} {m} {before} {after} {s} {i} {ns} {n} f a full l = record {
-  fit = a.fit;
+pub overfull : {m before after : Meaning} {s i : ℕ} {ns : List Name} {n : Name} {r : Answer} → Filling m s ns i before → Added before s n r after → r ≡ Full → i < length ns → AddedAll m s ns Full after
+overfull {m} {before} {after} {s} {i} {ns} {n} f a full l = record {
   held = λ done. absurd (let z : ◌≡◌ {A = ℕ} 0 1 = cc in omega arith);
   done = λ fits. absurd (room_below before s n (omega (arith, f.few)) (sym a.answer ∙ full));
   few = let up = added_size before s n in let is = ap (λ (k : Meaning). k.size) a.means in omega (arith, up, is, f.few);

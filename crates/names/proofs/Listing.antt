@@ -6,6 +6,11 @@ use Rattle.names.specs.declared.taken.Taken.{Taken}
 use Rattle.model.specs.Names.{same_name}
 use Rattle.names.specs.Held.{same_taken, listed}
 
+pub or_swap : (a b c : Bool) → (a || (b || c)) ≡ (b || (a || c))
+or_swap true true c = refl
+or_swap true false c = refl
+or_swap false b c = refl
+
 -- a name taken at a stop
 abbrev pub taken : ℕ → Name → Taken
 taken s n = record { stop = s; name = n }
@@ -30,6 +35,19 @@ pub is_same : (s : ℕ) (n : Name) → same_taken (taken s n) s n ≡ true
 is_same s n =
     and_from _ _ (eq-eqb s s refl)
     (and_from _ _ (eq-eqb n.serial n.serial refl) (and_from _ _ (eq-eqb n.time n.time refl) (eq-eqb n.sender n.sender refl)))
+
+-- names are equal, part by part in the order of the fields, where they are the same
+pub equal_same : (p q : Taken) → same_taken p q.stop q.name ≡ (eqb p.stop q.stop && (eqb p.name.sender q.name.sender && (eqb p.name.serial q.name.serial && eqb p.name.time q.name.time)))
+equal_same p q = turned (eqb p.stop q.stop) (eqb p.name.sender q.name.sender) (eqb p.name.serial q.name.serial) (eqb p.name.time q.name.time)
+  where
+    turned : (a b c d : Bool) → (a && (c && (d && b))) ≡ (a && (b && (c && d)))
+    turned false b c d = refl
+    turned true true false d = refl
+    turned true true true true = refl
+    turned true true true false = refl
+    turned true false false d = refl
+    turned true false true true = refl
+    turned true false true false = refl
 
 pub listed_append : (xs ys : List Taken) (s : ℕ) (n : Name) → listed (xs ++ ys) s n ≡ (listed xs s n || listed ys s n)
 listed_append [] ys s n = refl

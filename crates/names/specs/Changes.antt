@@ -35,21 +35,17 @@ without_below h s floor = λ t k. h t k && not (is_below s floor (record { stop 
 abbrev pub nothing : Meaning
 nothing = record { holds = λ t k. false; size = 0 }
 
-pub record Asked (Fit : Type 0) (m : Meaning) (s : ℕ) (n : Name) (r : Bool) (after : Meaning) : Type 0 where
-  pub fit : Fit
+pub record Asked (m : Meaning) (s : ℕ) (n : Name) (r : Bool) (after : Meaning) : Type 0 where
   pub same : after ≡ m
   pub answer : r ≡ m.holds s n
 
-pub record Added (Fit : Type 0) (m : Meaning) (s : ℕ) (n : Name) (r : Answer) (after : Meaning) : Type 0 where
-  pub fit : Fit
+pub record Added (m : Meaning) (s : ℕ) (n : Name) (r : Answer) (after : Meaning) : Type 0 where
   pub answer : r ≡ add_answer m s n
   pub means : after ≡ after_add m s n
 
 -- how many are left follows from which are held, as a set's size is always their number
-pub record Dropped (Fit : Type 0) (m : Meaning) (s floor : ℕ) (after : Meaning) : Type 0 where
-  pub fit : Fit
+pub record Dropped (m : Meaning) (s floor : ℕ) (after : Meaning) : Type 0 where
   pub held : after.holds ≡ without_below m.holds s floor
 
-pub record Cleared (Fit : Type 0) (after : Meaning) : Type 0 where
-  pub fit : Fit
+pub record Cleared (after : Meaning) : Type 0 where
   pub means : after ≡ nothing

@@ -10,8 +10,7 @@ use Rattle.model.specs.Names.{named}
 abbrev pub with_names : (ℕ → Name → Bool) → ℕ → List Name → ℕ → Name → Bool
 with_names h s ns = λ t k. (s == t && named ns k) || h t k
 
-pub record AddedAll (Fit : Type 0) (m : Meaning) (s : ℕ) (ns : List Name) (r : Answer) (after : Meaning) : Type 0 where
-  pub fit : Fit
+pub record AddedAll (m : Meaning) (s : ℕ) (ns : List Name) (r : Answer) (after : Meaning) : Type 0 where
   pub held : r ≡ Done → after.holds ≡ with_names m.holds s ns
   -- where the set has room for as many names, all of them are in
   pub done : m.size + length ns ≤ most_taken → r ≡ Done

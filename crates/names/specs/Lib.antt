@@ -1,4 +1,5 @@
 pub mod Held
+pub mod Order
 pub mod Changes
 pub mod Rows
 pub mod Fill

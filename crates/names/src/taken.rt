@@ -1,31 +1,56 @@
-// A name taken at a stop: what name sets are made of.
-ghost use Rattle.std.specs.Prelude.{◌≡◌};
-ghost use Rattle.names.specs.Held.{same_taken};
+// A name taken at a stop: what name sets are made of, and the order in which they may keep it.
+ghost use Rattle.std.specs.Prelude.{◌≡◌, refl};
+ghost use Rattle.std.proofs.Common.{rules};
+ghost use Rattle.std.specs.Cmp.{partial_order_from_agreeing_total};
+ghost use Rattle.std.specs.Cmp.Rules.{comparing};
+ghost use Rattle.std.specs.Ordering.{as_partial_cmp};
+ghost use Rattle.names.specs.Order.{taken_cmp};
 ghost use Rattle.names.specs.Changes.{is_below};
 
 use model::Name;
+use std::cmp::Ordering;
 
-#[derive(Clone, Copy)]
+// Equal ones have the same stop, and names with the same sender, the same serial and the same time.
+#[derive(Clone, Copy, PartialEq, Eq)]
 pub struct Taken {
     pub stop: u16,
     pub name: Name,
 }
 
 impl Taken {
-    // Equal names have the same sender, the same serial and the same time.
-    pub fn is(&self, stop: u16, name: Name) -> bool
-        ensures { result ≡ same_taken self.now stop name }
-    {
-        self.stop == stop
-            && self.name.serial == name.serial
-            && self.name.time == name.time
-            && self.name.sender == name.sender
-    }
-
     // Whether this is one of the stop's names with times below the floor.
     pub fn is_below(&self, stop: u16, floor: u32) -> bool
         ensures { result ≡ is_below stop floor self.now }
     {
         self.stop == stop && self.name.time < floor
+    }
+}
+
+// By stop, then by time: so a stop's names below a floor stand side by side. The order of `Name` begins with the sender.
+impl Ord for Taken {
+    ghost cmp = { taken_cmp };
+
+    ghost total = { Prim.search (comparing, rules) };
+
+    ghost matches_partial_cmp = { Prim.search (comparing, rules) };
+
+    ghost matches_eq = { Prim.search (comparing, rules) };
+
+    fn cmp(&self, other: &Taken) -> Ordering {
+        self.stop
+            .cmp(&other.stop)
+            .then(self.name.time.cmp(&other.name.time))
+            .then(self.name.serial.cmp(&other.name.serial))
+            .then(self.name.sender.cmp(&other.name.sender))
+    }
+}
+
+impl PartialOrd for Taken {
+    ghost partial_cmp = { as_partial_cmp taken_cmp };
+
+    ghost laws = { partial_order_from_agreeing_total taken_cmp (Prim.search (comparing, rules)) (λ p q. refl) (Prim.search (comparing, rules)) };
+
+    fn partial_cmp(&self, other: &Taken) -> Option<Ordering> {
+        Some(self.cmp(other))
     }
 }

@@ -2,14 +2,14 @@
 use bloom::Bloom;
 use hashed_names::HashedNames;
 use model::Name;
-use names::NameSet;
+use names::{NameSet, Taken};
 use sorted_names::SortedNames;
 use std::test::Fail;
 
 #[derive(Clone, Copy)]
 enum Act {
-    Ask(u16, Name),
-    Add(u16, Name),
+    Ask(Taken),
+    Add(Taken),
     Drop(u16, u32),
     Clear,
 }
@@ -38,16 +38,16 @@ fn act_of(draw: u32) -> Act {
     match draw / 1024 % 64 {
         0 => Act::Drop(stop, name.time),
         1 if draw / 65536 % 4 == 0 => Act::Clear,
-        1..=40 => Act::Add(stop, name),
-        _ => Act::Ask(stop, name),
+        1..=40 => Act::Add(Taken { stop, name }),
+        _ => Act::Ask(Taken { stop, name }),
     }
 }
 
 // What the set answers: an add by its number, a question by yes or no.
 fn answer_of<N: NameSet>(set: &mut N, act: Act) -> u8 {
     match act {
-        Act::Ask(stop, name) => { if set.has(stop, name) { YES } else { NO } }
-        Act::Add(stop, name) => u8::from(set.add(stop, name)),
+        Act::Ask(taken) => { if set.has(taken) { YES } else { NO } }
+        Act::Add(taken) => u8::from(set.add(taken)),
         Act::Drop(stop, floor) => {
             set.drop_below(stop, floor);
             0

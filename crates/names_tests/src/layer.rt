@@ -1,9 +1,21 @@
 // The Bloom layer's bits and its count.
 use bloom::{Bloom, bits_of};
 use model::Name;
-use names::NameSet;
+use names::{NameSet, Taken};
 use sorted_names::SortedNames;
 use std::test::Fail;
+
+// Sender 7, serial 1, time 30 at a stop.
+fn at(stop: u16) -> Taken {
+    Taken {
+        stop,
+        name: Name {
+            sender: 7,
+            serial: 1,
+            time: 30,
+        },
+    }
+}
 
 // Zeros: a is 0, b is 1, so the bits are 0, 1, 2, 3.
 //
@@ -21,47 +33,49 @@ fn four_bits_by_hand(rt: HostRuntime) {
         serial: 0,
         time: 0,
     };
-    assert_eq!(rt; bits_of(0, zeros), [0, 1, 2, 3]);
-    let guide = Name {
-        sender: 7,
-        serial: 1,
-        time: 30,
-    };
-    assert_eq!(rt; bits_of(3, guide), [1286, 9041, 412, 8167]);
+    assert_eq!(rt;
+        bits_of(Taken {
+            stop: 0,
+            name: zeros
+        }),
+        [0, 1, 2, 3]
+    );
+    assert_eq!(rt; bits_of(at(3)), [1286, 9041, 412, 8167]);
     let wraps = Name {
         sender: 1,
         serial: 2,
         time: 60,
     };
-    assert_eq!(rt; bits_of(5, wraps), [2155, 1280, 405, 15914]);
+    assert_eq!(rt;
+        bits_of(Taken {
+            stop: 5,
+            name: wraps
+        }),
+        [2155, 1280, 405, 15914]
+    );
 }
 
 // Only questions whose four bits are set are passed below and counted, whatever the answer is.
 #[test]
 fn counts_questions_passed_below(rt: HostRuntime) -> Result<(), Fail> {
-    let name = Name {
-        sender: 7,
-        serial: 1,
-        time: 30,
-    };
     let mut set = Bloom::new(rt.alloc(), SortedNames::new(rt.alloc())?)?;
     assert_eq!(rt; set.asked(), 0);
-    assert!(rt; !set.has(3, name));
-    assert!(rt; !set.may_have(3, name));
+    assert!(rt; !set.has(at(3)));
+    assert!(rt; !set.may_have(at(3)));
     assert_eq!(rt; set.asked(), 0, "told from the bits alone");
-    assert_eq!(rt; u8::from(set.add(3, name)), 0);
+    assert_eq!(rt; u8::from(set.add(at(3))), 0);
     assert_eq!(rt; set.asked(), 0, "an add is no question");
-    assert!(rt; set.has(3, name));
+    assert!(rt; set.has(at(3)));
     assert_eq!(rt; set.asked(), 1);
-    assert!(rt; !set.has(4, name));
+    assert!(rt; !set.has(at(4)));
     assert_eq!(rt; set.asked(), 1, "another stop has other bits");
     set.drop_below(3, 31);
-    assert!(rt; set.may_have(3, name), "a drop clears no bit");
-    assert!(rt; !set.has(3, name));
+    assert!(rt; set.may_have(at(3)), "a drop clears no bit");
+    assert!(rt; !set.has(at(3)));
     assert_eq!(rt; set.asked(), 2, "passed below, and not there");
     set.clear();
-    assert!(rt; !set.may_have(3, name), "a clear clears all bits");
-    assert!(rt; !set.has(3, name));
+    assert!(rt; !set.may_have(at(3)), "a clear clears all bits");
+    assert!(rt; !set.has(at(3)));
     assert_eq!(rt; set.asked(), 2, "and keeps the count");
     Ok(())
 }
@@ -69,15 +83,10 @@ fn counts_questions_passed_below(rt: HostRuntime) -> Result<(), Fail> {
 // A set that held something is cleared as the layer is made.
 #[test]
 fn clears_the_set_below(rt: HostRuntime) -> Result<(), Fail> {
-    let name = Name {
-        sender: 7,
-        serial: 1,
-        time: 30,
-    };
     let mut below = SortedNames::new(rt.alloc())?;
-    assert_eq!(rt; u8::from(below.add(3, name)), 0);
+    assert_eq!(rt; u8::from(below.add(at(3))), 0);
     let mut set = Bloom::new(rt.alloc(), below)?;
-    assert!(rt; !set.has(3, name));
-    assert_eq!(rt; u8::from(set.add(3, name)), 0);
+    assert!(rt; !set.has(at(3)));
+    assert_eq!(rt; u8::from(set.add(at(3))), 0);
     Ok(())
 }

@@ -2,15 +2,18 @@
 use bloom::Bloom;
 use hashed_names::HashedNames;
 use model::Name;
-use names::NameSet;
+use names::{NameSet, Taken};
 use sorted_names::SortedNames;
 use std::test::Fail;
 
-fn named(serial: u32, time: u32) -> Name {
-    Name {
-        sender: 7,
-        serial,
-        time,
+fn taken(stop: u16, serial: u32, time: u32) -> Taken {
+    Taken {
+        stop,
+        name: Name {
+            sender: 7,
+            serial,
+            time,
+        },
     }
 }
 
@@ -19,9 +22,9 @@ fn check(holds: bool, what: &str) -> Result<(), Fail> {
 }
 
 // Adds a name, which answers this number.
-fn adds<N: NameSet>(set: &mut N, stop: u16, name: Name, number: u8) -> Result<(), Fail> {
+fn adds<N: NameSet>(set: &mut N, taken: Taken, number: u8) -> Result<(), Fail> {
     check(
-        u8::from(set.add(stop, name)) == number,
+        u8::from(set.add(taken)) == number,
         "an add has another answer",
     )
 }
@@ -34,61 +37,58 @@ fn stop_of(i: u32) -> u16 {
 // 1,280 names go in, the next one is refused, and all of them are found.
 fn fills_up<N: NameSet>(set: &mut N) -> Result<(), Fail> {
     for i in 0..1280u32 {
-        adds(set, stop_of(i), named(i, 60), 0)?;
+        adds(set, taken(stop_of(i), i, 60), 0)?;
     }
-    adds(set, 3, named(5000, 60), 7)?;
+    adds(set, taken(3, 5000, 60), 7)?;
     check(
-        u8::from(set.add(0, named(0, 60))) == 4,
+        u8::from(set.add(taken(0, 0, 60))) == 4,
         "a name that is there is seen, not refused",
     )?;
     check(
-        !set.has(3, named(5000, 60)),
+        !set.has(taken(3, 5000, 60)),
         "what was refused is not there",
     )?;
     for i in 0..1280u32 {
-        check(set.has(stop_of(i), named(i, 60)), "it is not there")?;
-        check(!set.has(stop_of(i), named(i, 61)), "it is there")?;
+        check(set.has(taken(stop_of(i), i, 60)), "it is not there")?;
+        check(!set.has(taken(stop_of(i), i, 61)), "it is there")?;
     }
     set.drop_below(5, 61);
     check(
-        u8::from(set.add(3, named(5000, 60))) == 0,
+        u8::from(set.add(taken(3, 5000, 60))) == 0,
         "what was dropped left room",
     )
 }
 
 // A name below the floor is gone, one at the floor stays, and so does another stop's.
 fn drops_below_the_floor<N: NameSet>(set: &mut N) -> Result<(), Fail> {
-    adds(set, 4, named(1, 119), 0)?;
-    adds(set, 4, named(2, 120), 0)?;
-    adds(set, 4, named(3, 121), 0)?;
-    adds(set, 5, named(1, 119), 0)?;
+    adds(set, taken(4, 1, 119), 0)?;
+    adds(set, taken(4, 2, 120), 0)?;
+    adds(set, taken(4, 3, 121), 0)?;
+    adds(set, taken(5, 1, 119), 0)?;
     set.drop_below(4, 120);
-    check(!set.has(4, named(1, 119)), "below the floor")?;
-    check(set.has(4, named(2, 120)), "at the floor")?;
-    check(set.has(4, named(3, 121)), "above the floor")?;
-    check(set.has(5, named(1, 119)), "another stop's")?;
+    check(!set.has(taken(4, 1, 119)), "below the floor")?;
+    check(set.has(taken(4, 2, 120)), "at the floor")?;
+    check(set.has(taken(4, 3, 121)), "above the floor")?;
+    check(set.has(taken(5, 1, 119)), "another stop's")?;
     check(
-        u8::from(set.add(4, named(1, 119))) == 0,
+        u8::from(set.add(taken(4, 1, 119))) == 0,
         "what is gone can come again",
     )
 }
 
 // Names that differ in one part alone are different names.
 fn tells_names_apart<N: NameSet>(set: &mut N) -> Result<(), Fail> {
-    adds(set, 1, named(9, 30), 0)?;
-    adds(set, 1, named(9, 30), 4)?;
-    check(!set.has(1, named(9, 31)), "another time")?;
-    check(!set.has(1, named(8, 30)), "another serial")?;
-    check(!set.has(2, named(9, 30)), "another stop")?;
-    let other = Name {
-        sender: 8,
-        serial: 9,
-        time: 30,
-    };
-    check(!set.has(1, other), "another sender")?;
+    adds(set, taken(1, 9, 30), 0)?;
+    adds(set, taken(1, 9, 30), 4)?;
+    check(!set.has(taken(1, 9, 31)), "another time")?;
+    check(!set.has(taken(1, 8, 30)), "another serial")?;
+    check(!set.has(taken(2, 9, 30)), "another stop")?;
+    let mut other = taken(1, 9, 30);
+    other.name.sender = 8;
+    check(!set.has(other), "another sender")?;
     set.clear();
-    check(!set.has(1, named(9, 30)), "nothing is left after a clear")?;
-    adds(set, 1, named(9, 30), 0)
+    check(!set.has(taken(1, 9, 30)), "nothing is left after a clear")?;
+    adds(set, taken(1, 9, 30), 0)
 }
 
 fn all_stories<N: NameSet>(set: &mut N) -> Result<(), Fail> {

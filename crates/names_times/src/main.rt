@@ -7,7 +7,7 @@
 use bloom::Bloom;
 use hashed_names::HashedNames;
 use model::Name;
-use names::NameSet;
+use names::{NameSet, Taken};
 use sorted_names::SortedNames;
 use std::env;
 use std::time::Instant;
@@ -24,23 +24,22 @@ struct Measured {
     hits: u32,
 }
 
-// The i-th name: guides hand in records with rising serials, second by second.
-fn named(i: u32) -> Name {
-    Name {
-        sender: (i % 50) as u16,
-        serial: i,
-        time: i / 4,
+// The i-th name: guides hand in records with rising serials, second by second, at one stop after the other.
+fn taken(i: u32) -> Taken {
+    Taken {
+        stop: (i % 32) as u16,
+        name: Name {
+            sender: (i % 50) as u16,
+            serial: i,
+            time: i / 4,
+        },
     }
-}
-
-fn stop_of(i: u32) -> u16 {
-    (i % 32) as u16
 }
 
 fn fill<N: NameSet>(set: &mut N, count: u32) {
     set.clear();
     for i in 0..count {
-        let _ = set.add(stop_of(i), named(i));
+        let _ = set.add(taken(i));
     }
 }
 
@@ -57,7 +56,7 @@ fn measure_has<N: NameSet>(
     for _ in 0..ROUNDS {
         for k in 0..1280u32 {
             let i = first.wrapping_add(k % count.max(1));
-            hits = hits.saturating_add(u32::from(set.has(stop_of(i), named(i))));
+            hits = hits.saturating_add(u32::from(set.has(taken(i))));
         }
     }
     let nanos = start.elapsed(rt)?.as_nanos();
@@ -77,7 +76,7 @@ fn measure_add<N: NameSet>(rt: &HostRuntime, set: &mut N, count: u32) -> anyhow:
         let start = Instant::now(rt)?;
         for k in 0..BATCH {
             let i = count.wrapping_add(k);
-            let answer = u8::from(set.add(stop_of(i), named(i)));
+            let answer = u8::from(set.add(taken(i)));
             hits = hits.saturating_add(u32::from(answer == 0));
         }
         nanos = nanos.saturating_add(start.elapsed(rt)?.as_nanos());
@@ -101,9 +100,9 @@ fn measure_drop<N: NameSet>(
     for _ in 0..ROUNDS {
         fill(set, count);
         let start = Instant::now(rt)?;
-        set.drop_below(stop_of(0), floor);
+        set.drop_below(taken(0).stop, floor);
         nanos = nanos.saturating_add(start.elapsed(rt)?.as_nanos());
-        hits = hits.saturating_add(u32::from(!set.has(stop_of(0), named(0))));
+        hits = hits.saturating_add(u32::from(!set.has(taken(0))));
     }
     Ok(Measured {
         nanos,

@@ -1,5 +1,5 @@
 -- Lists that climb: what is found in one, what goes in, and what is taken out.
-use Rattle.std.specs.Prelude.{◌≡◌, ℕ, ◌+◌, ◌-◌, ◌<◌, ◌≤◌, Bool, true, false, ◌||◌, ◌⊎◌, List, ◌∷◌, ◌++◌, length, get_or, take, drop, ◌≢◌, slice_index_or, refl}
+use Rattle.std.specs.Prelude.{◌≡◌, ℕ, ◌+◌, ◌-◌, ◌<◌, ◌≤◌, true, ◌||◌, ◌⊎◌, List, ◌∷◌, ◌++◌, length, get_or, take, drop, ◌≢◌, slice_index_or}
 use Rattle.std.proofs.Common.{sym, ap, subst, ◌∙◌, inl, inr, arith, length-drop}
 use Rattle.std.proofs.Math.Path.{fun_ext}
 use Rattle.std.specs.List.{insert}
@@ -12,43 +12,9 @@ use Rattle.names.specs.declared.taken.Taken.{Taken}
 use Rattle.names.specs.Held.{same_taken, listed, most_taken}
 use Rattle.names.specs.Changes.{with_name, Added}
 use Rattle.names.proofs.Adding.{added_done}
-use Rattle.names.proofs.Listing.{taken, same_is, is_same, listed_append, listed_at, at_listed}
+use Rattle.names.proofs.Listing.{or_swap, taken, listed_append, at_listed}
 use Rattle.sorted_names.specs.Order.{before, Climbs, Splits, Absent}
-use Rattle.sorted_names.specs.Apart.{before_self}
 use Rattle.sorted_names.proofs.Ordered.{before_total}
-
--- what is the same as the name at the place is found
-pub found : (xs : List Taken) (i s : ℕ) (n : Name) (d : Taken) → i < length xs → same_taken (slice_index_or xs i d) s n ≡ true → listed xs s n ≡ true
-found xs i s n d l e = at_listed xs s n i d l (same_is (slice_index_or xs i d) s n e)
-
--- what is not at its place is nowhere
-pub not_found : (xs : List Taken) (i s : ℕ) (n : Name) → Climbs xs → Splits xs (taken s n) i → ((d : Taken) → i < length xs → same_taken (slice_index_or xs i d) s n ≡ false) → Absent xs s n i
-not_found xs i s n up w other = record { none = none; splits = w }
-  where
-    q : Taken
-    q = taken s n
-
-    none : listed xs s n ≡ false
-    none =
-        elim (cases_Bool (listed xs s n)) [
-          | inl e ↦
-              let at = listed_at xs s n e in
-              let k = at.0 in
-              absurd (elim (cases_lt k i) [
-                | inl lt ↦ both_ways (before q q) (before_self q) (subst (λ p. before p q ≡ true) (at.2 q) (w.below k q lt))
-                | inr ge ↦
-                    elim (cases_eq k i) [
-                      | inl is ↦
-                          both_ways (same_taken q s n)
-                          (subst (λ p. same_taken p s n ≡ false) (ap (λ j. get_or xs j q) (sym is) ∙ at.2 q) (other q (omega (arith, at.1))))
-                          (is_same s n)
-                      | inr ne ↦
-                          both_ways (before (slice_index_or xs i q) q) (w.above i q (omega arith) (omega (arith, at.1)))
-                          (subst (λ p. before (slice_index_or xs i q) p ≡ true) (at.2 q) (up i k q (omega arith) at.1))
-                    ]
-              ])
-          | inr e ↦ e
-        ]
 
 moved : {u v p q : Taken} → u ≡ p → v ≡ q → before p q ≡ true → before u v ≡ true
 moved {u} {v} {p} {q} a b h = ap (λ x. before x v) a ∙ ap (λ y. before p y) b ∙ h
@@ -95,15 +61,10 @@ climbs_inserted xs i s n up w a b d lt l = go (cases_lt b i) (cases_lt a i) (cas
 pub listed_inserted : (xs : List Taken) (i s : ℕ) (n : Name) → listed (insert xs i (taken s n)) ≡ with_name (listed xs) s n
 listed_inserted xs i s n = fun_ext (λ t. fun_ext (λ k. at t k))
   where
-    turned : (a b c : Bool) → (a || (b || c)) ≡ (b || (a || c))
-    turned true true c = refl
-    turned true false c = refl
-    turned false b c = refl
-
     at : (t : ℕ) (k : Name) → listed (take i xs ++ taken s n ∷ drop i xs) t k ≡ (same_taken (taken s n) t k || listed xs t k)
     at t k =
         listed_append (take i xs) (taken s n ∷ drop i xs) t k
-        ∙ turned (listed (take i xs) t k) (same_taken (taken s n) t k) (listed (drop i xs) t k)
+        ∙ or_swap (listed (take i xs) t k) (same_taken (taken s n) t k) (listed (drop i xs) t k)
         ∙ ap (λ b. same_taken (taken s n) t k || b) (sym (listed_append (take i xs) (drop i xs) t k) ∙ ap (λ zs. listed zs t k) (take-append-drop i xs))
 
 -- a stretch is taken out
@@ -129,14 +90,14 @@ climbs_closed xs a b ab bl up i j d lt l = go (cases_lt i a) (cases_lt j a)
     go (inr ia) (inr ja) = moved (high i ia) (high j ja) (up (b + (i - a)) (b + (j - a)) d (omega arith) (omega (arith, size)))
 
 -- a split of what was lent is a split of the table
-pub splits_lent : {xs ys : List Taken} {p q : Taken} {i : ℕ} → ys ≡ xs → p ≡ q → (Climbs ys → Splits ys p i) → Climbs xs → Splits xs q i
-splits_lent {xs} {ys} {p} {q} {i} e f h = subst (λ zs. Climbs zs → Splits zs q i) e (subst (λ r. Climbs ys → Splits ys r i) f h)
+pub splits_lent : {xs ys : List Taken} {p q : Taken} {i : ℕ} → ys ≡ xs → p ≡ q → Splits ys p i → Splits xs q i
+splits_lent {xs} {ys} {p} {q} {i} e f h = subst (λ zs. Splits zs q i) e (subst (λ r. Splits ys r i) f h)
 
-pub absent_lent : {xs ys : List Taken} {s : ℕ} {n : Name} {i : ℕ} → ys ≡ xs → (Climbs ys → Absent ys s n i) → Climbs xs → Absent xs s n i
-absent_lent {xs} {ys} {s} {n} {i} e h = subst (λ zs. Climbs zs → Absent zs s n i) e h
+pub absent_lent : {xs ys : List Taken} {s : ℕ} {n : Name} {i : ℕ} → ys ≡ xs → Absent ys s n i → Absent xs s n i
+absent_lent {xs} {ys} {s} {n} {i} e h = subst (λ zs. Absent zs s n i) e h
 
 -- the table after a name has gone in at its place
-pub put_in : {xs ys : List Taken} {i s count after : ℕ} {n : Name} → Climbs xs → Absent xs s n i → ys ≡ insert xs i (taken s n) → count < most_taken → after ≡ count + 1 → Added (Climbs ys) (record { holds = listed xs; size = count }) s n Done (record { holds = listed ys; size = after })
-put_in {xs} {ys} {i} {s} {count} {after} {n} up away e few one =
+pub put_in : {xs ys : List Taken} {i s count after : ℕ} {n : Name} → Absent xs s n i → ys ≡ insert xs i (taken s n) → count < most_taken → after ≡ count + 1 → Added (record { holds = listed xs; size = count }) s n Done (record { holds = listed ys; size = after })
+put_in {xs} {ys} {i} {s} {count} {after} {n} away e few one =
     added_done (record { holds = listed xs; size = count }) (record { holds = listed ys; size = after }) s n
-    (subst Climbs (sym e) (climbs_inserted xs i s n up away)) away.none few (ap listed e ∙ listed_inserted xs i s n) one
+    away.none few (ap listed e ∙ listed_inserted xs i s n) one

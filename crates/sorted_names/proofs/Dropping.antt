@@ -2,9 +2,9 @@
 use Rattle.std.proofs.Common.{◌≡◌, ℕ, ◌+◌, ◌-◌, ◌<◌, ◌≤◌, Bool, true, false, not, ◌&&◌, ◌||◌, List, ◌++◌, length, get_or, take, drop, sym, refl, ap, ◌∙◌, inl, inr, arith, length-drop}
 use mathlib.Core.Path.{fun_ext}
 use Rattle.std.specs.List.{between}
-use Rattle.std.proofs.lemmas.List.{get_or-take, get_or-drop, length-take}
+use Rattle.std.proofs.lemmas.List.{get_or-take, get_or-drop, length-take, length-append}
 use Rattle.std.proofs.lemmas.List.Edits.{split_between}
-use Rattle.std.proofs.lemmas.Bool.{cases_lt}
+use Rattle.std.proofs.lemmas.Bool.{both_ways, cases_lt}
 use Rattle.std.proofs.lemmas.Bool.Decides.{nat_tests}
 use Rattle.model.specs.declared.record.Name.{Name}
 use Rattle.names.specs.declared.taken.Taken.{Taken}
@@ -70,12 +70,23 @@ module _ (xs : List Taken) (s floor a b : ℕ) (low : Splits xs (first_at s 0) a
           ∙ listed_append (take a xs) (between a b xs ++ drop b xs) t n
           ∙ ap (λ w. listed (take a xs) t n || w) (listed_append (between a b xs) (drop b xs) t n)))
 
-  pub same_holds : b ≤ a → listed xs ≡ without_below (listed xs) s floor
-  same_holds ba = fun_ext (λ t. fun_ext (λ n. all_pass (keep s floor) xs each t n))
+  -- the first place at a floor is not below the stop's first
+  pub in_turn : a ≤ b
+  in_turn =
+      elim (cases_lt b a) [
+        | inr le ↦ le
+        | inl lt ↦
+            let p = get_or xs b (first_at s 0) in
+            absurd (both_ways (before p (first_at s floor)) (high.above b (first_at s 0) (omega arith) (omega (arith, low.within)))
+            (floor_after p (low.below b (first_at s 0) lt)))
+      ]
     where
-      each : (k : ℕ) (d : Taken) → k < length xs → keep s floor (get_or xs k d) ≡ true
-      each k d l =
-          elim (cases_lt k a) [
-            | inl lt ↦ keep_below s floor (get_or xs k d) (low.below k d lt)
-            | inr ge ↦ keep_above s floor (get_or xs k d) (high.above k d (omega arith) l)
-          ]
+      floor_after : (p : Taken) → before p (first_at s 0) ≡ true → before p (first_at s floor) ≡ true
+      floor_after p h = grind (arith, nat_tests)
+
+  pub closed_short : length (take a xs ++ drop b xs) ≤ length xs
+  closed_short =
+      let both = length-append (take a xs) (drop b xs) in
+      let front = length-take a xs in
+      let back = length-drop b xs in
+      omega (arith, both, front, back, in_turn, low.within)

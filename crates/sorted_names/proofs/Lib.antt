@@ -1,4 +1,4 @@
 pub mod Ordered
+pub mod Searching
 pub mod Climbing
-pub mod Closing
 pub mod Dropping

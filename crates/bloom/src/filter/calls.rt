@@ -5,7 +5,7 @@ ghost use Rattle.bloom.specs.Filter.{bits_in};
 
 use super::Filter;
 use crate::bits::bits_of;
-use model::Name;
+use names::Taken;
 use std::alloc::{AllocError, Global};
 
 const WORDS: usize = 256;
@@ -15,10 +15,7 @@ impl Filter {
     pub(crate) fn new(heap: Global) -> Result<Filter, AllocError>
         ensures { IfOk result (λ f. bits_in f ≡ (λ _. false)) }
     {
-        let mut words = Vec::with_capacity(heap, WORDS)?;
-        while words.len() < WORDS {
-            words.push_reserved(0);
-        }
+        let words = vec![in heap; 0; WORDS]?;
         Ok(Filter { words })
     }
 
@@ -38,22 +35,19 @@ impl Filter {
     }
 
     // Whether the four bits of the name are set.
-    pub(crate) fn has_all(&self, stop: u16, name: Name) -> bool
-        ensures { result ≡ all_set (bits_in self.now) stop name }
+    pub(crate) fn has_all(&self, taken: Taken) -> bool
+        ensures { result ≡ all_set (bits_in self.now) taken.stop taken.name }
     {
-        let [p, q, r, s] = bits_of(stop, name);
-        self.get(p) && self.get(q) && self.get(r) && self.get(s)
+        bits_of(taken).iter().all(|bit| self.get(*bit))
     }
 
     // Sets the four bits of the name.
-    pub(crate) fn set_all(&mut self, stop: u16, name: Name)
-        ensures { bits_in self.new ≡ with_four (bits_in self.old) stop name }
+    pub(crate) fn set_all(&mut self, taken: Taken)
+        ensures { bits_in self.new ≡ with_four (bits_in self.old) taken.stop taken.name }
     {
-        let [p, q, r, s] = bits_of(stop, name);
-        self.set(p);
-        self.set(q);
-        self.set(r);
-        self.set(s);
+        for bit in bits_of(taken) {
+            self.set(bit);
+        }
     }
 
     // Clears every bit.

@@ -4,16 +4,16 @@ ghost use Rattle.hashed_names.specs.Probing.{home_of};
 ghost use Rattle.hashed_names.specs.Places.{slots_of, Found};
 
 use super::{Places, Spot};
-use model::Name;
 use names::Taken;
 use std::alloc::{AllocError, Global};
 
 const PLACES: usize = 2_048;
 
 // Where the search for the name begins.
-fn home_of(stop: u16, name: Name) -> usize
-    ensures { result ≡ home_of stop name }
+fn home_of(taken: Taken) -> usize
+    ensures { result ≡ home_of taken.stop taken.name }
 {
+    let Taken { stop, name } = taken;
     let mixed = name
         .serial
         .wrapping_mul(2_654_435_761)
@@ -28,24 +28,22 @@ impl Places {
     pub(crate) fn new(heap: Global) -> Result<Places, AllocError>
         ensures { IfOk result (λ p. slots_of p ≡ replicate 2048 None) }
     {
-        let mut slots = Vec::with_capacity(heap, PLACES)?;
-        while slots.len() < PLACES {
-            slots.push_reserved(None);
-        }
+        let slots = vec![in heap; None; PLACES]?;
         Ok(Places { slots })
     }
 
     // Searches for the name, from its home on, up to it or to a free place.
-    pub(crate) fn find(&self, stop: u16, name: Name) -> Spot
-        ensures { Found (slots_of self.now) stop name result }
+    pub(crate) fn find(&self, taken: Taken) -> Spot
+        ensures { Found (slots_of self.now) taken.stop taken.name result }
     {
-        let home = home_of(stop, name);
+        let home = home_of(taken);
+        // No plainer as a chain, which would look at the place where it ends once more.
         for step in 0..PLACES {
             let place = (home + step) % PLACES;
-            let Some(taken) = self.slots[place] else {
+            let Some(other) = self.slots[place] else {
                 return Spot::Free(place);
             };
-            if taken.is(stop, name) {
+            if other == taken {
                 return Spot::Here;
             }
         }

@@ -11,11 +11,11 @@ use super::{Places, Spot};
 use names::Taken;
 
 impl Places {
-    // Puts the name in, unless it is there, and says whether a place was taken.
+    // Puts the name in, unless it is there, and says whether a place was taken, as `HashSet::insert` does.
     fn insert(&mut self, taken: Taken) -> bool
         ensures { Inserted (slots_of self.old) taken result (slots_of self.new) }
     {
-        let Spot::Free(place) = self.find(taken.stop, taken.name) else {
+        let Spot::Free(place) = self.find(taken) else {
             return false;
         };
         self.put(place, taken);
@@ -26,14 +26,7 @@ impl Places {
     pub(crate) fn has_below(&self, stop: u16, floor: u32) -> bool
         ensures { result ≡ false → listed (stored (slots_of self.now)) ≡ without_below (listed (stored (slots_of self.now))) stop floor }
     {
-        for slot in self.slots.as_slice() {
-            if let Some(taken) = slot {
-                if taken.is_below(stop, floor) {
-                    return true;
-                }
-            }
-        }
-        false
+        self.slots.iter().any(|slot| matches!(slot, Some(taken) if taken.is_below(stop, floor)))
     }
 
     // Puts all names but the stop's below the floor into other places, which are cleared first, and counts them.
@@ -42,7 +35,7 @@ impl Places {
     {
         other.clear();
         let mut count = 0;
-        for slot in self.slots.as_slice() {
+        for slot in &self.slots {
             let Some(taken) = slot else {
                 continue;
             };

@@ -3,11 +3,11 @@ ghost use Rattle.std.specs.Prelude.{◌≡◌, IfOk, refl};
 ghost use Rattle.std.proofs.Common.{sym, rules};
 ghost use Rattle.names.specs.Changes.{Cleared};
 ghost use Rattle.sorted_names.specs.Order.{first_at};
-ghost use Rattle.sorted_names.specs.Table.{sorted_fit, sorted_meaning};
+ghost use Rattle.sorted_names.specs.Table.{sorted_meaning};
 ghost use Rattle.sorted_names.specs.Apart.{climbs_apart};
 
 use super::SortedNames;
-use crate::order::{close_gap, find, place_of};
+use crate::order::{find, place_of};
 use model::{Answer, Name};
 use names::{NameSet, Taken};
 use std::alloc::{AllocError, Global};
@@ -31,7 +31,7 @@ fn first_at(stop: u16, time: u32) -> Taken
 impl SortedNames {
     // An empty table, with room for 1,280 names.
     pub fn new(heap: Global) -> Result<SortedNames, AllocError>
-        ensures { IfOk result (λ t. Cleared (sorted_fit t) (sorted_meaning t)) }
+        ensures { IfOk result (λ t. Cleared (sorted_meaning t)) }
     {
         let items = Vec::with_capacity(heap, MOST)?;
         Ok(SortedNames { items })
@@ -39,43 +39,39 @@ impl SortedNames {
 }
 
 impl NameSet for SortedNames {
-    ghost fit = { sorted_fit };
-
     ghost meaning = { sorted_meaning };
 
-    ghost counted = { λ t fit.
+    ghost counted = { λ t.
         record {
           names = t.items.items;
-          apart = climbs_apart t.items.items fit;
+          apart = climbs_apart t.items.items t.climbs;
           long = sym t.items.ok.0;
           same = λ s n. refl;
         } };
 
     ghost bounded = { Prim.search rules };
 
-    fn has(&mut self, stop: u16, name: Name) -> bool {
-        find(self.items.as_slice(), stop, name).is_ok()
+    fn has(&mut self, taken: Taken) -> bool {
+        find(&self.items, taken).is_ok()
     }
 
-    fn add(&mut self, stop: u16, name: Name) -> Answer {
-        let Err(place) = find(self.items.as_slice(), stop, name) else {
+    fn add(&mut self, taken: Taken) -> Answer {
+        let Err(place) = find(&self.items, taken) else {
             return Answer::Seen;
         };
         if self.items.len() == MOST {
             return Answer::Full;
         }
-        match self.items.insert(place, Taken { stop, name }) {
+        match self.items.insert(place, taken) {
             Ok(()) => Answer::Done,
             Err(_) => unreachable(),
         }
     }
 
     fn drop_below(&mut self, stop: u16, floor: u32) {
-        let from = place_of(self.items.as_slice(), &first_at(stop, 0));
-        let to = place_of(self.items.as_slice(), &first_at(stop, floor));
-        if from < to {
-            close_gap(&mut self.items, from, to);
-        }
+        let from = place_of(&self.items, &first_at(stop, 0));
+        let to = place_of(&self.items, &first_at(stop, floor));
+        drop(self.items.drain(from..to));
     }
 
     fn clear(&mut self) {

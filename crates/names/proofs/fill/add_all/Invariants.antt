@@ -2,5 +2,4 @@ use Rattle.names.proofs.Adding.{Filling}
 use Rattle.names.proofs.fill.add_all.Given as goal
 
 abbrev pub invariant-loop-name : goal.invariant-loop-name
-invariant-loop-name g l =
-    g.N.NameSet.fit l.initial.set → Filling (g.N.NameSet.fit l.set) (g.N.NameSet.meaning l.initial.set) l.stop l.names l.name-index (g.N.NameSet.meaning l.set)
+invariant-loop-name g l = Filling (g.N.NameSet.meaning l.initial.set) l.stop l.names l.name-index (g.N.NameSet.meaning l.set)

@@ -1,9 +1,13 @@
-use Rattle.std.proofs.Common.{sym, arith}
-use Rattle.sorted_names.proofs.Ordered.{below_more, above_more}
+use Rattle.std.proofs.Common.{sym, ◌∙◌, rules}
+use Rattle.std.proofs.lemmas.List.Sorted.{IsPartitionPoint-from_clause}
+use Rattle.sorted_names.specs.Order.{before}
+use Rattle.sorted_names.proofs.Ordered.{before_cmp}
+use Rattle.sorted_names.proofs.Searching.{parted, splits_at}
 use Rattle.sorted_names.proofs.order.place_of.Goals as goal
 
-pub loop-low-preserved-then-is_before : goal.loop-low-preserved-then-is_before
-loop-low-preserved-then-is_before c = (omega arith, c.loop-low.invariant.1, λ up. below_more _ _ _ _ up (omega arith) (sym c.if-is_before.ensures), c.loop-low.invariant.3)
-
-pub loop-low-preserved : goal.loop-low-preserved
-loop-low-preserved c = (omega arith, omega arith, c.loop-low.invariant.2, λ up. above_more _ _ _ _ up (omega arith) (sym c.if-is_before.ensures))
+pub returns : goal.returns
+returns c =
+    let found = c.partition_point.ensures in
+    splits_at _ c.requires _ _ found.bound
+    (IsPartitionPoint-from_clause (λ y. before y c.args.q.now) _ _ found.partitioned (parted _ c.requires _)
+    (λ a r f called. (search rules ∙ sym (before_cmp a.0.now c.args.q.now), search rules)))

@@ -16,17 +16,17 @@ loop-slot-preserved-then-is_below c = going_without c.loop-slot.invariant c.loop
 
 pub loop-slot-preserved : goal.loop-slot-preserved
 loop-slot-preserved c =
-    let size : length c.as_slice-slot-items.result.now ≡ 2048 = c.as_slice-slot-items.ensures.len ∙ c.args.self.now.long in
+    let size : length c.deref-slot-items.result.now ≡ 2048 = c.deref-slot-items.ensures.len ∙ c.args.self.now.long in
     let count : c.if-insert.count ≡ cond c.insert.result (c.loop-slot.count + 1) c.loop-slot.count =
     elim c.if-insert.branch [
       | then-insert w ↦ w.count-is ∙ ap (λ b. cond b (c.loop-slot.count + 1) c.loop-slot.count) (sym w.if-insert.true)
       | else-insert w ↦ w.count-is ∙ ap (λ b. cond b (c.loop-slot.count + 1) c.loop-slot.count) (sym w.if-insert.false)
     ]
     in
-    subst (Going c.as_slice-slot-items.result.now c.args.stop c.args.floor (c.loop-slot.slot-index + 1) (slots_of c.insert.new.self)) (sym count)
+    subst (Going c.deref-slot-items.result.now c.args.stop c.args.floor (c.loop-slot.slot-index + 1) (slots_of c.insert.new.self)) (sym count)
     (going_with c.loop-slot.invariant c.loop-slot-test.true c.in-Some.taken size c.in-Some.is (sym c.if-is_below.ensures) c.insert.ensures)
 
 pub returns : goal.returns
 returns c =
-    subst (λ xs. Rebuilt xs c.args.stop c.args.floor (slots_of c.loop-slot.other) c.loop-slot.count) c.as_slice-slot-items.ensures.value
+    subst (λ xs. Rebuilt xs c.args.stop c.args.floor (slots_of c.loop-slot.other) c.loop-slot.count) c.deref-slot-items.ensures.value
     (gone_through c.loop-slot.invariant c.loop-slot-test.false)

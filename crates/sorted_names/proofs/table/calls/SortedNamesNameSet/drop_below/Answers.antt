@@ -1,25 +1,28 @@
-use Rattle.std.proofs.Common.{sym, ap, ◌∙◌, subst, arith}
+use Rattle.std.proofs.Common.{◌≡◌, length, vec_items, sym, ap, ◌∙◌, subst, arith}
+use Rattle.std.specs.List.{remove_range}
 use Rattle.names.specs.Held.{listed}
 use Rattle.sorted_names.specs.Order.{Climbs}
 use Rattle.sorted_names.proofs.Climbing.{splits_lent, climbs_closed}
-use Rattle.sorted_names.proofs.Dropping.{closed_holds, same_holds}
+use Rattle.sorted_names.proofs.Dropping.{closed_holds, closed_short, in_turn}
 use Rattle.sorted_names.proofs.table.calls.SortedNamesNameSet.drop_below.Goals as goal
 
-pub returns-then-from-to : goal.returns-then-from-to
-returns-then-from-to c = λ up.
-    let low = splits_lent c.as_slice.ensures.value c.first_at.ensures c.place_of-from.ensures.splits up in
-    let high = splits_lent c.as_slice-2.ensures.value c.first_at-2.ensures c.place_of-to.ensures.splits up in
-    let items = c.close_gap.ensures.items in
+pub invariant_of-self : goal.invariant_of-self
+invariant_of-self c =
+    let table = c.args.self.now in
+    let low = splits_lent c.deref.ensures.value c.first_at.ensures c.place_of-from.ensures in
+    let high = splits_lent c.deref-2.ensures.value c.first_at-2.ensures c.place_of-to.ensures in
+    let items : vec_items c.drop.new.self.0 ≡ remove_range (vec_items table.items) c.place_of-from.result c.place_of-to.result = c.drop.ensures.items ∙ c.drain.ensures.kept in
     record {
-      fit = subst Climbs (sym items) (climbs_closed _ _ _ (omega arith) high.within up);
-      held = ap listed items ∙ closed_holds _ _ _ _ _ low high (omega arith);
+      roomy = omega (arith, c.drop.ensures.capacity, c.drain.ensures.capacity, table.roomy);
+      few =
+          let fewer = closed_short _ _ _ _ _ low high in
+          let size = ap length items in
+          omega (arith, fewer, size, c.drop.new.self.0.ok.0, table.items.ok.0, table.few);
+      climbs = subst Climbs (sym items) (climbs_closed _ _ _ (in_turn _ _ _ _ _ low high) high.within table.climbs);
     }
 
-pub returns-else-from-to : goal.returns-else-from-to
-returns-else-from-to c = λ up.
-    let low = splits_lent c.as_slice.ensures.value c.first_at.ensures c.place_of-from.ensures.splits up in
-    let high = splits_lent c.as_slice-2.ensures.value c.first_at-2.ensures c.place_of-to.ensures.splits up in
-    record {
-      fit = up;
-      held = same_holds _ _ _ _ _ low high c.if-from-to.false;
-    }
+pub returns : goal.returns
+returns c =
+    let low = splits_lent c.deref.ensures.value c.first_at.ensures c.place_of-from.ensures in
+    let high = splits_lent c.deref-2.ensures.value c.first_at-2.ensures c.place_of-to.ensures in
+    record { held = ap listed (c.drop.ensures.items ∙ c.drain.ensures.kept) ∙ closed_holds _ _ _ _ _ low high (in_turn _ _ _ _ _ low high) }
