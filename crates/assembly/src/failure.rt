@@ -1,5 +1,9 @@
 // Why no script was made of a text.
+ghost use Rattle.std.specs.Prelude.{◌≡◌};
+ghost use Rattle.assembly.specs.declared.failure.Failure.TheVariants.{NoMemory};
+
 use parser::{Misread, Wanted};
+use std::alloc::AllocError;
 use std::fmt;
 
 #[derive(Clone, Copy)]
@@ -7,6 +11,14 @@ pub enum Failure<'a> {
     NoMemory,
     // A line, counted from 1, that says no call.
     BadLine { number: usize, misread: Misread<'a> },
+}
+
+impl<'a> From<AllocError> for Failure<'a> {
+    ghost from_gives = { λ _ failure. failure ≡ NoMemory };
+
+    fn from(_: AllocError) -> Failure<'a> {
+        Self::NoMemory
+    }
 }
 
 // A word as it is quoted; the end of the line has none.

@@ -33,16 +33,9 @@ pub fn assemble<'a>(heap: Global, text: &'a [u8]) -> Result<Vec<u8>, Failure<'a>
         number += 1;
         let (line, after) = first_line(rest);
         rest = after;
-        match parse_line(line) {
-            Ok(said) => match said {
-                None => {}
-                Some(call) => {
-                    if add_frame(&mut script, call).is_err() {
-                        return Err(Failure::NoMemory);
-                    }
-                }
-            },
-            Err(misread) => return Err(Failure::BadLine { number, misread }),
+        let said = parse_line(line).map_err(|misread| Failure::BadLine { number, misread })?;
+        if let Some(call) = said {
+            add_frame(&mut script, call)?;
         }
     }
     Ok(script)

@@ -13,11 +13,8 @@ fn line_length(text: &[u8]) -> usize
     ensures value { result ≡ prefix_len in_line text.now }
     ensures within { result ≤ length text.now }
 {
-    let mut n = 0;
-    while n < text.len() && in_line(text[n]) {
-        n += 1;
-    }
-    n
+    let end = text.iter().position(|byte| !in_line(*byte));
+    end.unwrap_or(text.len())
 }
 
 // The first line of a text, and what stands after its end.

@@ -1,54 +1,22 @@
--- From a frame's body to its call and back.
-use Rattle.std.proofs.Common.{◌≡◌, ℕ, true, eqb, List, [], length, Some, Ok, Err, sym, refl, ap, ◌∙◌}
-use Rattle.std.proofs.lemmas.List.{nil_from_length}
-use Rattle.std.proofs.lemmas.Bool.{cond-true, eqb-true}
-use Rattle.std.specs.Option.{option_map}
-use Rattle.model.specs.declared.answer.Fault.TheVariants.{WrongLength}
-use Rattle.model.specs.declared.call.Call.{Call}
-use Rattle.frames.specs.declared.frame.Frame.{Frame}
-use Rattle.frames.specs.declared.kind.Kind.{Kind}
-use Rattle.frames.specs.declared.kind.Kind.TheVariants.{HandIn, Advance, Fire, Send, Lose, Repeat, Deliver, Pass, Restart, Show, MarkDone}
-use Rattle.frames.specs.Calls.{body_of, call_of, decoded, frame_of, kind_for}
-use Rattle.frames.specs.Frames.{frame_body, frame_kind, framed}
-use Rattle.frames.specs.Kinds.{fits}
+-- A body is the bytes of the numbers that were read from it.
+use Rattle.std.proofs.Common.{◌≡◌, ℕ, ◌+◌, List, [], ◌∷◌, ◌++◌, length, get_or}
+use Rattle.model.specs.Bytes.{u16_bytes, u32_bytes}
+use Rattle.frames.specs.Spelt.{spelt_out}
 
-pub kind_for-call_of : (k : Kind) (b : List ℕ) → kind_for (call_of k b) ≡ k
-kind_for-call_of HandIn b = refl
-kind_for-call_of Advance b = refl
-kind_for-call_of Fire b = refl
-kind_for-call_of Send b = refl
-kind_for-call_of Lose b = refl
-kind_for-call_of Repeat b = refl
-kind_for-call_of Deliver b = refl
-kind_for-call_of Pass b = refl
-kind_for-call_of Restart b = refl
-kind_for-call_of Show b = refl
-kind_for-call_of MarkDone b = refl
+-- the bytes of a number of two bytes, or of four, that was read at a place
+abbrev pub Two : List ℕ → ℕ → ℕ → Type 0
+Two bs i n = u16_bytes n ≡ get_or bs i 0 ∷ get_or bs (i + 1) 0 ∷ []
 
--- what decoding promises of a frame and a call
-pub record Decodes (f : Frame) (c : Call) : Type 0 where
-  pub forth : Ok c ≡ decoded (frame_kind f) (frame_body f)
-  pub back : frame_of c ≡ Some (framed (frame_kind f) (frame_body f))
+abbrev pub Four : List ℕ → ℕ → ℕ → Type 0
+Four bs i n = u32_bytes n ≡ get_or bs i 0 ∷ get_or bs (i + 1) 0 ∷ get_or bs (i + 2) 0 ∷ get_or bs (i + 3) 0 ∷ []
 
-abbrev Suits : Frame → Type 0
-Suits f = fits (frame_kind f) (length (frame_body f)) ≡ true
+pub done_spelt : (bs : List ℕ) (stop serial : ℕ) → length bs ≡ 6 → Two bs 0 stop → Four bs 2 serial → u16_bytes stop ++ u32_bytes serial ≡ bs
+done_spelt bs stop serial size p s = let e = spelt_out bs 6 size in cc
 
--- a call with its body, at a frame that is known to be g
-pub decodes : (f g : Frame) (c : Call) → f ≡ g → Suits f → c ≡ call_of (frame_kind g) (frame_body g) → body_of c ≡ Some (frame_body g) → Decodes f c
-decodes f g c is suits is_call is_bytes = record {
-  forth =
-      let e = cond-true (fits (frame_kind f) (length (frame_body f))) (Ok (call_of (frame_kind f) (frame_body f))) (Err WrongLength) suits in
-      let h : c ≡ call_of (frame_kind f) (frame_body f) = cc in
-      ap (λ x. Ok x) h ∙ sym e;
-  back =
-      let k : kind_for c ≡ frame_kind f = ap kind_for is_call ∙ kind_for-call_of (frame_kind g) (frame_body g) ∙ ap frame_kind (sym is) in
-      let h : body_of c ≡ Some (frame_body f) = cc in
-      ap (λ o. option_map (framed (kind_for c)) o) h ∙ ap (λ x. Some (framed x (frame_body f))) k;
-}
+pub restart_spelt : (bs : List ℕ) (left : ℕ) → length bs ≡ 7 → Four bs 1 left
+    → get_or bs 0 0 ∷ (u32_bytes left ++ (get_or bs 5 0 ∷ get_or bs 6 0 ∷ [])) ≡ bs
+restart_spelt bs left size l = let e = spelt_out bs 7 size in cc
 
--- the same where the body is empty
-pub decodes_empty : (f g : Frame) (c : Call) → f ≡ g → Suits f → ((n : ℕ) → fits (frame_kind g) n ≡ eqb n 0) → c ≡ call_of (frame_kind g) (frame_body g) → body_of c ≡ Some [] → Decodes f c
-decodes_empty f g c is suits none is_call is_bytes =
-    let e : eqb (length (frame_body g)) 0 ≡ true = cc (none (length (frame_body g))) in
-    let n = nil_from_length (frame_body g) (eqb-true (length (frame_body g)) 0 e) in
-    decodes f g c is suits is_call (is_bytes ∙ ap (λ x. Some x) (sym n))
+pub hand_in_spelt : (bs : List ℕ) (sender stop serial time amount : ℕ) → length bs ≡ 14 → Two bs 0 sender → Two bs 2 stop → Four bs 4 serial → Four bs 8 time → Two bs 12 amount
+    → u16_bytes sender ++ (u16_bytes stop ++ (u32_bytes serial ++ (u32_bytes time ++ u16_bytes amount))) ≡ bs
+hand_in_spelt bs sender stop serial time amount size n p s t a = let e = spelt_out bs 14 size in cc

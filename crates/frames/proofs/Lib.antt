@@ -1,4 +1,2 @@
 mod Decoding
 mod ReadingBack
-mod Spelt
-mod Stages

@@ -75,12 +75,6 @@ read_back_as call frame k body is back suits =
     let e : call_of k body ≡ call = ap (λ bs. call_of k (drop 4 bs)) (sym is) ∙ back in
     subst (λ c. ReadBack c frame) e (subst (λ bs. ReadBack (call_of k body) bs) (sym is) (read_back k body suits))
 
--- what writing a call promises
-pub record Written (call : Call) (buffer after : List ℕ) (r : Result ℕ Fault) : Type 0 where
-  pub answer : r ≡ write_answer (frame_of call) (length buffer)
-  pub holds : after ≡ buffer_after (frame_of call) buffer
-  pub back : IfOk r (λ n. ReadBack call (take n after))
-
 room : (call : Call) (frame buffer : List ℕ) (small : Bool) → ReadBack call frame
     → IfOk (cond small (Err BufferTooSmall) (Ok (length frame))) (λ n. ReadBack call (take n (cond small buffer (frame ++ drop (length frame) buffer))))
 room call frame buffer true h = tt
@@ -89,21 +83,15 @@ room call frame buffer false h = subst (λ bs. ReadBack call bs) (sym (take_at f
 some_same : (xs ys : List ℕ) → Some xs ≡ Some ys → xs ≡ ys
 some_same xs ys e = cc
 
--- at a call that is known to be `known`, with its frame
-module _ (call known : Call) (is : call ≡ known) (buffer after : List ℕ) (r : Result ℕ Fault) where
-  pub written : (frame body : List ℕ) → body_of known ≡ Some body → fits (kind_for known) (length body) ≡ true
-      → frame_of known ≡ Some frame → call_of (kind_for known) (drop 4 frame) ≡ known
-      → r ≡ write_answer (Some frame) (length buffer) → after ≡ buffer_after (Some frame) buffer → Written call buffer after r
-  written frame body is_body suits is_frame back answer holds =
-      let e : frame_of call ≡ Some frame = ap frame_of is ∙ is_frame in
-      let b : frame_of known ≡ Some (framed (kind_for known) body) = ap (λ o. option_map (framed (kind_for known)) o) is_body in
-      let f : frame ≡ framed (kind_for known) body = some_same frame (framed (kind_for known) body) (sym is_frame ∙ b) in
-      let h : ReadBack call frame = read_back_as call frame (kind_for known) body f (back ∙ sym is) suits in
-      record {
-        answer = answer ∙ ap (λ o. write_answer o (length buffer)) (sym e);
-        holds = holds ∙ ap (λ o. buffer_after o buffer) (sym e);
-        back =
-            subst (λ x. IfOk x (λ n. ReadBack call (take n after))) (sym answer)
-            (subst (λ a. IfOk (write_answer (Some frame) (length buffer)) (λ n. ReadBack call (take n a))) (sym holds)
-            (room call frame buffer (ltb (length buffer) (length frame)) h));
-      }
+-- what was put, if it was, is read back: at a call that is as_known to be `as_known`, with its frame
+pub put_back : (call as_known : Call) → call ≡ as_known → (buffer after : List ℕ) (r : Result ℕ Fault) (frame body : List ℕ)
+    → body_of as_known ≡ Some body → fits (kind_for as_known) (length body) ≡ true
+    → frame_of as_known ≡ Some frame → call_of (kind_for as_known) (drop 4 frame) ≡ as_known
+    → r ≡ write_answer (Some frame) (length buffer) → after ≡ buffer_after (Some frame) buffer → IfOk r (λ n. ReadBack call (take n after))
+put_back call as_known is buffer after r frame body is_body suits is_frame back answer holds =
+    let b : frame_of as_known ≡ Some (framed (kind_for as_known) body) = ap (λ o. option_map (framed (kind_for as_known)) o) is_body in
+    let f : frame ≡ framed (kind_for as_known) body = some_same frame (framed (kind_for as_known) body) (sym is_frame ∙ b) in
+    let h : ReadBack call frame = read_back_as call frame (kind_for as_known) body f (back ∙ sym is) suits in
+    subst (λ x. IfOk x (λ n. ReadBack call (take n after))) (sym answer)
+    (subst (λ a. IfOk (write_answer (Some frame) (length buffer)) (λ n. ReadBack call (take n a))) (sym holds)
+    (room call frame buffer (ltb (length buffer) (length frame)) h))

@@ -1,7 +1,9 @@
 -- What a reader is, and what it hands out. Assumes nothing.
-use Rattle.std.specs.Prelude.{◌≡◌, ℕ, ◌+◌, true, List, length, take, Some, None, Ok, Err, Option, Result}
+use Rattle.std.specs.Prelude.{◌≡◌, ℕ, ◌+◌, ◌≤◌, true, List, length, take, Some, None, Ok, Err, Option, Result}
 use Rattle.model.specs.declared.answer.Fault.{Fault}
 use Rattle.model.specs.declared.call.Call.{Call}
+use Rattle.frames.specs.declared.frame.Frame.{Frame}
+use Rattle.frames.specs.declared.kind.Kind.{Kind}
 use Rattle.frames.specs.declared.reader.Event.{Event}
 use Rattle.frames.specs.declared.reader.Misfit.{Misfit}
 use Rattle.frames.specs.declared.reader.Placed.{Placed}
@@ -17,7 +19,12 @@ script_of r = r.script.now
 abbrev pub place_of : Reader → ℕ
 place_of r = r.at
 
--- the kind and the body, or the fault, that was handed out
+-- the kind and the body, or the fault, that was read
+abbrev pub shown : Result Frame Fault → Result (Kind × List ℕ) Fault
+shown (Ok f) = Ok (frame_kind f, frame_body f)
+shown (Err fault) = Err fault
+
+-- the same of what was handed out
 abbrev pub handed : Option (Result Placed Misfit) → Standing
 handed None = None
 handed (Some (Ok p)) = Some (Ok (frame_kind p.frame, frame_body p.frame))
@@ -30,9 +37,13 @@ Offset i (Some (Ok p)) = p.offset ≡ i
 Offset i (Some (Err m)) = m.offset ≡ i
 
 -- a frame that was handed out has a body that its kind can have, and its bytes are the first of these
-pub record Whole (bs : List ℕ) (p : Placed) : Type 0 where
-  pub suits : fits (frame_kind p.frame) (length (frame_body p.frame)) ≡ true
-  pub bytes : take (4 + length (frame_body p.frame)) bs ≡ framed (frame_kind p.frame) (frame_body p.frame)
+pub record Begun (bs : List ℕ) (f : Frame) : Type 0 where
+  pub suits : fits (frame_kind f) (length (frame_body f)) ≡ true
+  pub bytes : take (4 + length (frame_body f)) bs ≡ framed (frame_kind f) (frame_body f)
+  pub within : 4 + length (frame_body f) ≤ length bs
+
+abbrev pub Whole : List ℕ → Placed → Type 0
+Whole bs p = Begun bs p.frame
 
 abbrev pub IfFramed : Option (Result Placed Misfit) → (Placed → Type 0) → Type 0
 IfFramed None P = Unit {0}

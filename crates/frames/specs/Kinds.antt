@@ -1,5 +1,7 @@
 -- The number of each kind of frame, and which lengths its body can have. Assumes nothing.
-use Rattle.std.specs.Prelude.{ℕ, Bool, cond, Some, None, Option, ◌==◌}
+use Rattle.std.specs.Prelude.{ℕ, Bool, cond, Some, None, Option, Result, ok_or, ◌==◌}
+use Rattle.model.specs.declared.answer.Fault.{Fault}
+use Rattle.model.specs.declared.answer.Fault.TheVariants.{UnknownKind}
 use Rattle.frames.specs.declared.kind.Kind.{Kind}
 use Rattle.frames.specs.declared.kind.Kind.TheVariants.{HandIn, Advance, Fire, Send, Lose, Repeat, Deliver, Pass, Restart, Show, MarkDone}
 
@@ -23,6 +25,9 @@ kind_of n =
     (cond (n == 4) (Some Send) (cond (n == 5) (Some Lose) (cond (n == 6) (Some Repeat)
     (cond (n == 7) (Some Deliver) (cond (n == 8) (Some Pass) (cond (n == 9) (Some Restart)
     (cond (n == 10) (Some Show) (cond (n == 11) (Some MarkDone) None))))))))))
+
+abbrev pub kind_or_fault : ℕ → Result Kind Fault
+kind_or_fault n = ok_or (kind_of n) UnknownKind
 
 -- whether a body of a kind can have so many bytes
 abbrev pub fits : Kind → ℕ → Bool

@@ -4,3 +4,4 @@ pub mod Calls
 pub mod Reading
 pub mod Handed
 pub mod Writing
+pub mod Spelt

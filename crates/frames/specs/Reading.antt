@@ -18,12 +18,13 @@ after_header None n rest = Some (Err UnknownKind)
 after_header (Some k) n rest =
     cond (fits k n) (cond (nat_lt (length rest) n) (Some (Err BodyShort)) (Some (Ok (k, take n rest)))) (Some (Err WrongLength))
 
--- what stands at a place of a script: faults in the order in which they are judged
+-- the frame at the front of what is left: faults in the order in which they are judged
+abbrev pub first_frame : List ℕ → Standing
+first_frame rest = cond (nat_lt (length rest) 4) (Some (Err HeaderShort)) (after_header (kind_of (u16_at rest 2)) (u16_at rest 0) (drop 4 rest))
+
+-- what stands at a place of a script
 abbrev pub stands_at : List ℕ → ℕ → Standing
-stands_at script i =
-    cond (nat_le (length script) i) None
-    (cond (nat_lt (length (drop i script)) 4) (Some (Err HeaderShort))
-    (after_header (kind_of (u16_at (drop i script) 2)) (u16_at (drop i script) 0) (drop 4 (drop i script))))
+stands_at script i = cond (nat_le (length script) i) None (first_frame (drop i script))
 
 -- the place after what stands at i: nothing is read past a fault
 abbrev pub place_after : List ℕ → ℕ → Standing → ℕ

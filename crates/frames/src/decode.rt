@@ -1,73 +1,11 @@
 // From the body of a frame to the call that it stands for. Any body of the right length is a call; whether its numbers
 // are in range is for the call to judge.
-ghost use Rattle.std.specs.Prelude.{◌≡◌, [], ◌∷◌, length, IfOk, Some, slice_index};
-ghost use Rattle.frames.specs.Calls.{body_of, call_of, decoded, frame_of};
+ghost use Rattle.std.specs.Prelude.{◌≡◌, IfOk, Some};
+ghost use Rattle.frames.specs.Calls.{decoded, frame_of};
 ghost use Rattle.frames.specs.Frames.{frame_body, frame_kind, framed};
-ghost use Rattle.frames.specs.declared.kind.Kind.TheVariants.{HandIn as of_hand_in, Advance as of_advance, Restart as of_restart, MarkDone as of_mark_done};
 
-use super::fields::{u16_at, u32_at};
 use super::frame::Frame;
 use model::{Call, Fault, Junk, Name, Record};
-
-fn hand_in<'a>(body: &'a [u8]) -> Call<'a>
-    requires { length body.now ≡ 14 }
-    ensures call { result ≡ call_of of_hand_in body.now }
-    ensures back { body_of result ≡ Some body.now }
-{
-    let name = Name {
-        sender: u16_at(body, 0),
-        serial: u32_at(body, 4),
-        time: u32_at(body, 8),
-    };
-    let stop = u16_at(body, 2);
-    let amount = u16_at(body, 12);
-    Call::HandIn {
-        record: Record { name, stop, amount },
-    }
-}
-
-fn advance<'a>(body: &'a [u8]) -> Call<'a>
-    requires { length body.now ≡ 4 }
-    ensures call { result ≡ call_of of_advance body.now }
-    ensures back { body_of result ≡ Some body.now }
-{
-    Call::Advance {
-        time: u32_at(body, 0),
-    }
-}
-
-fn restart<'a>(body: &'a [u8]) -> Call<'a>
-    requires { length body.now ≡ 7 }
-    ensures call { result ≡ call_of of_restart body.now }
-    ensures back { body_of result ≡ Some body.now }
-{
-    Call::Restart {
-        node: body[0],
-        left: u32_at(body, 1),
-        tear: body[5],
-        junk: Junk::Fill(body[6]),
-    }
-}
-
-fn mark_done<'a>(body: &'a [u8]) -> Call<'a>
-    requires { length body.now ≡ 6 }
-    ensures call { result ≡ call_of of_mark_done body.now }
-    ensures back { body_of result ≡ Some body.now }
-{
-    Call::MarkDone {
-        stop: u16_at(body, 0),
-        serial: u32_at(body, 2),
-    }
-}
-
-// The one byte of a body that has no other.
-fn only(body: &[u8]) -> u8
-    requires { length body.now ≡ 1 }
-    ensures value { result ≡ slice_index body.now 0 }
-    ensures back { result ∷ [] ≡ body.now }
-{
-    body[0]
-}
 
 impl<'a> Frame<'a> {
     // The call that the frame stands for. A frame that the reader hands out always has one.
@@ -75,21 +13,40 @@ impl<'a> Frame<'a> {
         ensures call { result ≡ decoded (frame_kind self.now) (frame_body self.now) }
         ensures writes_back { IfOk result (λ c. frame_of c ≡ Some (framed (frame_kind self.now) (frame_body self.now))) }
     {
-        if !self.kind().fits(self.body().len()) {
-            return Err(Fault::WrongLength);
+        match *self {
+            Frame::HandIn(&[n0, n1, p0, p1, s0, s1, s2, s3, t0, t1, t2, t3, a0, a1]) => {
+                let name = Name {
+                    sender: u16::from_le_bytes([n0, n1]),
+                    serial: u32::from_le_bytes([s0, s1, s2, s3]),
+                    time: u32::from_le_bytes([t0, t1, t2, t3]),
+                };
+                let stop = u16::from_le_bytes([p0, p1]);
+                let amount = u16::from_le_bytes([a0, a1]);
+                Ok(Call::HandIn {
+                    record: Record { name, stop, amount },
+                })
+            }
+            Frame::Advance(&[t0, t1, t2, t3]) => Ok(Call::Advance {
+                time: u32::from_le_bytes([t0, t1, t2, t3]),
+            }),
+            Frame::Fire(&[node]) => Ok(Call::Fire { node }),
+            Frame::Send([]) => Ok(Call::Send),
+            Frame::Lose(&[place]) => Ok(Call::Lose { place }),
+            Frame::Repeat(&[place]) => Ok(Call::Repeat { place }),
+            Frame::Deliver(&[place]) => Ok(Call::Deliver { place }),
+            Frame::Pass([]) => Ok(Call::Pass),
+            Frame::Restart(&[node, l0, l1, l2, l3, tear, fill]) => Ok(Call::Restart {
+                node,
+                left: u32::from_le_bytes([l0, l1, l2, l3]),
+                tear,
+                junk: Junk::Fill(fill),
+            }),
+            Frame::Show([]) => Ok(Call::Show),
+            Frame::MarkDone(&[p0, p1, s0, s1, s2, s3]) => Ok(Call::MarkDone {
+                stop: u16::from_le_bytes([p0, p1]),
+                serial: u32::from_le_bytes([s0, s1, s2, s3]),
+            }),
+            _ => Err(Fault::WrongLength),
         }
-        Ok(match self {
-            Frame::HandIn(body) => hand_in(body),
-            Frame::Advance(body) => advance(body),
-            Frame::Fire(body) => Call::Fire { node: only(body) },
-            Frame::Send(_) => Call::Send,
-            Frame::Lose(body) => Call::Lose { place: only(body) },
-            Frame::Repeat(body) => Call::Repeat { place: only(body) },
-            Frame::Deliver(body) => Call::Deliver { place: only(body) },
-            Frame::Pass(_) => Call::Pass,
-            Frame::Restart(body) => restart(body),
-            Frame::Show(_) => Call::Show,
-            Frame::MarkDone(body) => mark_done(body),
-        })
     }
 }

@@ -7,7 +7,6 @@
 #![tactic(auto)]
 
 mod decode;
-mod fields;
 mod frame;
 mod kind;
 mod reader;

@@ -1,9 +1,8 @@
 // Hands out the frames of a script one after another.
-ghost use Rattle.std.specs.Prelude.{◌≡◌, ◌<◌, ◌≤◌, length, drop, OnSome};
-ghost use Rattle.frames.specs.Handed.{EventOffset, IfFramed, Offset, Whole, handed, handed_call, place_of, script_of};
-ghost use Rattle.frames.specs.Reading.{call_at, next_place, stands_at};
+ghost use Rattle.std.specs.Prelude.{◌≡◌, ◌<◌, ◌≤◌, length, drop, IfOk, OnSome, Some};
+ghost use Rattle.frames.specs.Handed.{Begun, EventOffset, IfFramed, Offset, Whole, handed, handed_call, place_of, script_of, shown};
+ghost use Rattle.frames.specs.Reading.{call_at, first_frame, next_place, stands_at};
 
-use super::fields::u16_at;
 use super::frame::Frame;
 use super::kind::Kind;
 use model::{Call, Fault};
@@ -56,37 +55,15 @@ impl<'a> Reader<'a> {
         if offset >= self.script.len() {
             return None;
         }
-        let rest = &self.script[offset..];
-        self.at = self.script.len();
-        let Some((header, rest)) = rest.split_first_chunk::<4>() else {
-            return Some(Err(Misfit {
-                fault: Fault::HeaderShort,
-                offset,
-            }));
+        let read = first_frame(&self.script[offset..]);
+        self.at = match &read {
+            Ok(frame) => offset + 4 + frame.body().len(),
+            Err(_) => self.script.len(),
         };
-        let Some(kind) = Kind::from_number(u16_at(header, 2)) else {
-            return Some(Err(Misfit {
-                fault: Fault::UnknownKind,
-                offset,
-            }));
-        };
-        let length = usize::from(u16_at(header, 0));
-        if !kind.fits(length) {
-            return Some(Err(Misfit {
-                fault: Fault::WrongLength,
-                offset,
-            }));
-        }
-        let Some((body, _)) = rest.split_at_checked(length) else {
-            return Some(Err(Misfit {
-                fault: Fault::BodyShort,
-                offset,
-            }));
-        };
-        self.at = offset + 4 + length;
-        let frame = Frame::new(kind, body);
-        Some(Ok(Placed { offset, frame }))
+        let read = read.map(|frame| Placed { offset, frame });
+        Some(read.map_err(|fault| Misfit { fault, offset }))
     }
+
     // The same, decoded.
     pub fn next_call(&mut self) -> Option<Result<Event<'a>, Misfit>>
         ensures call { handed_call result ≡ call_at (script_of self.old) (place_of self.old) }
@@ -95,12 +72,30 @@ impl<'a> Reader<'a> {
         ensures place { place_of self.new ≡ next_place (script_of self.old) (place_of self.old) }
         ensures forward { OnSome result ((place_of self.old < place_of self.new) × (place_of self.new ≤ length (script_of self.old))) }
     {
-        match self.next_frame()? {
-            Ok(Placed { offset, frame }) => match frame.call() {
-                Ok(call) => Some(Ok(Event { offset, call })),
-                Err(fault) => Some(Err(Misfit { fault, offset })),
-            },
-            Err(misfit) => Some(Err(misfit)),
-        }
+        let next = self.next_frame()?;
+        Some(next.and_then(|Placed { offset, frame }| {
+            let call = frame.call().map(|call| Event { offset, call });
+            call.map_err(|fault| Misfit { fault, offset })
+        }))
     }
+}
+
+// The frame at the front of what is left of a script.
+fn first_frame<'a>(rest: &'a [u8]) -> Result<Frame<'a>, Fault>
+    ensures stands { Some (shown result) ≡ first_frame rest.now }
+    ensures whole { IfOk result (Begun rest.now) }
+{
+    let Some((header, rest)) = rest.split_first_chunk::<4>() else {
+        return Err(Fault::HeaderShort);
+    };
+    let [l0, l1, k0, k1] = *header;
+    let kind = Kind::try_from(u16::from_le_bytes([k0, k1]))?;
+    let length = usize::from(u16::from_le_bytes([l0, l1]));
+    if !kind.fits(length) {
+        return Err(Fault::WrongLength);
+    }
+    let Some((body, _)) = rest.split_at_checked(length) else {
+        return Err(Fault::BodyShort);
+    };
+    Ok(Frame::new(kind, body))
 }

@@ -6,18 +6,17 @@ ghost use Rattle.frames.specs.Calls.{call_of, frame_of};
 ghost use Rattle.frames.specs.Writing.{ReadBack, buffer_after, write_answer};
 ghost use Rattle.frames.specs.declared.kind.Kind.TheVariants as kind;
 
-use super::fields::{u16_bytes, u32_bytes};
 use model::{Call, Fault, Junk, Record};
 
 fn hand_in(record: Record) -> [u8; 18]
     ensures frame { frame_of (ask.HandIn «record») ≡ Some result }
     ensures back { call_of kind.HandIn (drop 4 result) ≡ ask.HandIn «record» }
 {
-    let [n0, n1] = u16_bytes(record.name.sender);
-    let [p0, p1] = u16_bytes(record.stop);
-    let [s0, s1, s2, s3] = u32_bytes(record.name.serial);
-    let [t0, t1, t2, t3] = u32_bytes(record.name.time);
-    let [a0, a1] = u16_bytes(record.amount);
+    let [n0, n1] = record.name.sender.to_le_bytes();
+    let [p0, p1] = record.stop.to_le_bytes();
+    let [s0, s1, s2, s3] = record.name.serial.to_le_bytes();
+    let [t0, t1, t2, t3] = record.name.time.to_le_bytes();
+    let [a0, a1] = record.amount.to_le_bytes();
     [
         14, 0, 1, 0, n0, n1, p0, p1, s0, s1, s2, s3, t0, t1, t2, t3, a0, a1,
     ]
@@ -27,7 +26,7 @@ fn advance(time: u32) -> [u8; 8]
     ensures frame { frame_of (ask.Advance time) ≡ Some result }
     ensures back { call_of kind.Advance (drop 4 result) ≡ ask.Advance time }
 {
-    let [t0, t1, t2, t3] = u32_bytes(time);
+    let [t0, t1, t2, t3] = time.to_le_bytes();
     [4, 0, 2, 0, t0, t1, t2, t3]
 }
 
@@ -35,7 +34,7 @@ fn restart(node: u8, left: u32, tear: u8, fill: u8) -> [u8; 11]
     ensures frame { frame_of (ask.Restart node left tear (Fill fill)) ≡ Some result }
     ensures back { call_of kind.Restart (drop 4 result) ≡ ask.Restart node left tear (Fill fill) }
 {
-    let [l0, l1, l2, l3] = u32_bytes(left);
+    let [l0, l1, l2, l3] = left.to_le_bytes();
     [7, 0, 9, 0, node, l0, l1, l2, l3, tear, fill]
 }
 
@@ -43,8 +42,8 @@ fn mark_done(stop: u16, serial: u32) -> [u8; 10]
     ensures frame { frame_of (ask.MarkDone stop serial) ≡ Some result }
     ensures back { call_of kind.MarkDone (drop 4 result) ≡ ask.MarkDone stop serial }
 {
-    let [p0, p1] = u16_bytes(stop);
-    let [s0, s1, s2, s3] = u32_bytes(serial);
+    let [p0, p1] = stop.to_le_bytes();
+    let [s0, s1, s2, s3] = serial.to_le_bytes();
     [6, 0, 11, 0, p0, p1, s0, s1, s2, s3]
 }
 

@@ -4,3 +4,4 @@ pub mod Numerals
 pub mod Parsed
 pub mod Left
 pub mod Lines
+pub mod Fronts

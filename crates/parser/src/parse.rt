@@ -8,37 +8,26 @@ ghost use Rattle.parser.specs.Parsed.{answered, call_from, kind_named, parsed, t
 
 use super::field::Field;
 use super::taking::Words;
-use super::words::{Misread, Wanted, same};
+use super::words::{Misread, Wanted};
 use frames::Kind;
 use model::{Call, Junk, Name, Record};
 
 fn kind_named(word: &[u8]) -> Option<Kind>
     ensures { result ≡ kind_named word.now }
 {
-    if same(word, b"hand-in") {
-        Some(Kind::HandIn)
-    } else if same(word, b"advance") {
-        Some(Kind::Advance)
-    } else if same(word, b"fire") {
-        Some(Kind::Fire)
-    } else if same(word, b"send") {
-        Some(Kind::Send)
-    } else if same(word, b"lose") {
-        Some(Kind::Lose)
-    } else if same(word, b"repeat") {
-        Some(Kind::Repeat)
-    } else if same(word, b"deliver") {
-        Some(Kind::Deliver)
-    } else if same(word, b"pass") {
-        Some(Kind::Pass)
-    } else if same(word, b"restart") {
-        Some(Kind::Restart)
-    } else if same(word, b"show") {
-        Some(Kind::Show)
-    } else if same(word, b"done") {
-        Some(Kind::MarkDone)
-    } else {
-        None
+    match word {
+        b"hand-in" => Some(Kind::HandIn),
+        b"advance" => Some(Kind::Advance),
+        b"fire" => Some(Kind::Fire),
+        b"send" => Some(Kind::Send),
+        b"lose" => Some(Kind::Lose),
+        b"repeat" => Some(Kind::Repeat),
+        b"deliver" => Some(Kind::Deliver),
+        b"pass" => Some(Kind::Pass),
+        b"restart" => Some(Kind::Restart),
+        b"show" => Some(Kind::Show),
+        b"done" => Some(Kind::MarkDone),
+        _ => None,
     }
 }
 
@@ -58,41 +47,6 @@ fn hand_in<'a>(words: &mut Words<'a>) -> Result<Call<'a>, Misread<'a>>
     Ok(Call::HandIn {
         record: Record { name, stop, amount },
     })
-}
-
-fn advance<'a>(words: &mut Words<'a>) -> Result<Call<'a>, Misread<'a>>
-    ensures { took result (left words.new) ≡ call_from of_kind.Advance (left words.old) }
-{
-    let time = words.value(Field::Time)?;
-    Ok(Call::Advance { time })
-}
-
-fn fire<'a>(words: &mut Words<'a>) -> Result<Call<'a>, Misread<'a>>
-    ensures { took result (left words.new) ≡ call_from of_kind.Fire (left words.old) }
-{
-    let node = words.value(Field::Node)? as u8;
-    Ok(Call::Fire { node })
-}
-
-fn lose<'a>(words: &mut Words<'a>) -> Result<Call<'a>, Misread<'a>>
-    ensures { took result (left words.new) ≡ call_from of_kind.Lose (left words.old) }
-{
-    let place = words.value(Field::Place)? as u8;
-    Ok(Call::Lose { place })
-}
-
-fn repeat<'a>(words: &mut Words<'a>) -> Result<Call<'a>, Misread<'a>>
-    ensures { took result (left words.new) ≡ call_from of_kind.Repeat (left words.old) }
-{
-    let place = words.value(Field::Place)? as u8;
-    Ok(Call::Repeat { place })
-}
-
-fn deliver<'a>(words: &mut Words<'a>) -> Result<Call<'a>, Misread<'a>>
-    ensures { took result (left words.new) ≡ call_from of_kind.Deliver (left words.old) }
-{
-    let place = words.value(Field::Place)? as u8;
-    Ok(Call::Deliver { place })
 }
 
 fn restart<'a>(words: &mut Words<'a>) -> Result<Call<'a>, Misread<'a>>
@@ -124,12 +78,22 @@ fn call_of_kind<'a>(words: &mut Words<'a>, kind: Kind) -> Result<Call<'a>, Misre
 {
     match kind {
         Kind::HandIn => hand_in(words),
-        Kind::Advance => advance(words),
-        Kind::Fire => fire(words),
+        Kind::Advance => Ok(Call::Advance {
+            time: words.value(Field::Time)?,
+        }),
+        Kind::Fire => Ok(Call::Fire {
+            node: words.value(Field::Node)? as u8,
+        }),
         Kind::Send => Ok(Call::Send),
-        Kind::Lose => lose(words),
-        Kind::Repeat => repeat(words),
-        Kind::Deliver => deliver(words),
+        Kind::Lose => Ok(Call::Lose {
+            place: words.value(Field::Place)? as u8,
+        }),
+        Kind::Repeat => Ok(Call::Repeat {
+            place: words.value(Field::Place)? as u8,
+        }),
+        Kind::Deliver => Ok(Call::Deliver {
+            place: words.value(Field::Place)? as u8,
+        }),
         Kind::Pass => Ok(Call::Pass),
         Kind::Restart => restart(words),
         Kind::Show => Ok(Call::Show),

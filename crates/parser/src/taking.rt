@@ -7,7 +7,7 @@ ghost use Rattle.parser.specs.Words.{rest_of, word_of};
 
 use super::field::Field;
 use super::numeral::numeral;
-use super::words::{Misread, Wanted, first_word, same};
+use super::words::{Misread, Wanted, first_word};
 
 #[derive(Drop)]
 pub struct Words<'a> {
@@ -31,13 +31,10 @@ impl<'a> Words<'a> {
         ensures fits { IfOk result (λ n. n ≤ most_of field) }
     {
         let word = self.word();
-        match numeral(word, field.most()) {
-            Some(number) => Ok(number),
-            None => Err(Misread {
-                word,
-                wanted: Wanted::Number(field),
-            }),
-        }
+        numeral(word, field.most()).ok_or(Misread {
+            word,
+            wanted: Wanted::Number(field),
+        })
     }
 
     // The field's name and a number.
@@ -46,7 +43,7 @@ impl<'a> Words<'a> {
         ensures fits { IfOk result (λ n. n ≤ most_of field) }
     {
         let word = self.word();
-        if !same(word, field.name().as_bytes()) {
+        if word != field.name().as_bytes() {
             return Err(Misread {
                 word,
                 wanted: Wanted::Name(field),

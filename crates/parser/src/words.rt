@@ -1,7 +1,6 @@
 // The words of a line, one after another.
 ghost use Rattle.std.specs.Prelude.{◌≡◌, ◌≤◌, length};
 ghost use Rattle.std.specs.List.{prefix_len};
-ghost use Rattle.std.specs.Str.{bytes_eq};
 ghost use Rattle.parser.specs.Words.{blank, rest_of, solid, word_of};
 
 use super::field::Field;
@@ -38,22 +37,16 @@ fn blanks(text: &[u8]) -> usize
     ensures value { result ≡ prefix_len blank text.now }
     ensures within { result ≤ length text.now }
 {
-    let mut n = 0;
-    while n < text.len() && is_blank(text[n]) {
-        n += 1;
-    }
-    n
+    let other = text.iter().position(|byte| !is_blank(*byte));
+    other.unwrap_or(text.len())
 }
 
 fn solids(text: &[u8]) -> usize
     ensures value { result ≡ prefix_len solid text.now }
     ensures within { result ≤ length text.now }
 {
-    let mut n = 0;
-    while n < text.len() && is_solid(text[n]) {
-        n += 1;
-    }
-    n
+    let other = text.iter().position(|byte| !is_solid(*byte));
+    other.unwrap_or(text.len())
 }
 
 // The first word of a text, empty if there is none, and what stands after it.
@@ -63,10 +56,4 @@ pub fn first_word(text: &[u8]) -> (&[u8], &[u8])
 {
     let (_, text) = text.split_at(blanks(text));
     text.split_at(solids(text))
-}
-
-pub fn same(word: &[u8], name: &[u8]) -> bool
-    ensures { result ≡ bytes_eq word.now name.now }
-{
-    word == name
 }

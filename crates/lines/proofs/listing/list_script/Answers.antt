@@ -32,7 +32,7 @@ step c =
           (string_bytes c.push_str.new.self) pushed had.forward.0 within c.loop-next.invariant.1 w.in-Err.misfit.fault
           (ap (λ s. call_at s place) (sym same) ∙ sym had.call ∙ ap (λ x. handed_call (Some x)) w.in-Err.is)
           (had.place ∙ ap (λ s. next_place s place) same)
-          (ap string_bytes w.line-is ∙ w.in_ok-line-in-Err.ensures ∙ ap (λ n. fault_of n w.in-Err.misfit.offset) w.number.ensures
+          (ap string_bytes w.line-is ∙ w.in_ok-line-in-Err.ensures ∙ ap (λ n. fault_of n w.in-Err.misfit.offset) w.from.ensures
           ∙ ap (λ i. fault_of (fault_number w.in-Err.misfit.fault) i) (subst (λ x. EventOffset place (Some x)) w.in-Err.is had.offset))
     ]
 

@@ -1,30 +1,45 @@
-use Rattle.std.proofs.Common.{◌≡◌, true, length, Some, refl, ap, ◌∙◌}
-use Rattle.model.specs.declared.call.Call.TheVariants as call
-use Rattle.frames.proofs.Decoding.{Decodes, decodes, decodes_empty}
-use Rattle.frames.specs.Calls.{body_of}
-use Rattle.frames.specs.Frames.{frame_body, frame_kind}
-use Rattle.frames.specs.Kinds.{fits}
+use Rattle.std.proofs.Common.{rules, arith, ◌≤◌, ◌<◌, length, Some, ap}
+use Rattle.frames.specs.declared.kind.Kind.TheVariants as kind
+use Rattle.frames.specs.Frames.{framed}
+use Rattle.frames.proofs.Decoding.{Two, Four, done_spelt, restart_spelt, hand_in_spelt}
 use Rattle.frames.proofs.frame.Frame.call.Goals as goal
-use Rattle.frames.proofs.frame.Frame.call.Goals.{in-HandIn, in-Advance, in-Fire, in-Send, in-Lose, in-Repeat, in-Deliver, in-Pass, in-Restart, in-Show, in-MarkDone}
 
-suits : (c : goal.Joined-self) → fits (frame_kind c.args.self.now) (length (frame_body c.args.self.now)) ≡ true
-suits c = let e = c.if-not-fits.ensures in cc
+pub returns-in-HandIn-len14-clause-writes_back : goal.returns-in-HandIn-len14-clause-writes_back
+returns-in-HandIn-len14-clause-writes_back c =
+    let is = c.in-HandIn-len14.is in
+    let b = c.in-HandIn-len14.field-0.now in
+    let low : 14 ≤ length b = rw is at c.in-HandIn-len14.len_at_least in
+    let high : length b < 15 = rw is at c.in-HandIn-len14.len_below in
+    let f = rw is at c.from_le_bytes.ensures in
+    let g = rw is at c.from_le_bytes-stop.ensures in
+    let h = rw is at c.from_le_bytes-in-HandIn-len14.ensures in
+    let i = rw is at c.from_le_bytes-in-HandIn-len14-2.ensures in
+    let j = rw is at c.from_le_bytes-amount.ensures in
+    let sender : Two b 0 c.from_le_bytes.result = search rules in
+    let stop : Two b 2 c.from_le_bytes-stop.result = search rules in
+    let serial : Four b 4 c.from_le_bytes-in-HandIn-len14.result = search rules in
+    let time : Four b 8 c.from_le_bytes-in-HandIn-len14-2.result = search rules in
+    let amount : Two b 12 c.from_le_bytes-amount.result = search rules in
+    rw is (ap (λ bs. Some (framed kind.HandIn bs)) (hand_in_spelt b _ _ _ _ _ (omega arith) sender stop serial time amount))
 
-met : (c : goal.Joined-self) → Decodes c.args.self.now c.match-self.result
-met c =
-    elim c.match-self.branch [
-      | in-HandIn w ↦ decodes _ _ _ w.in-HandIn.is (suits c) (w.result-is ∙ w.hand_in.ensures.call) (ap body_of w.result-is ∙ w.hand_in.ensures.back)
-      | in-Advance w ↦ decodes _ _ _ w.in-Advance.is (suits c) (w.result-is ∙ w.advance.ensures.call) (ap body_of w.result-is ∙ w.advance.ensures.back)
-      | in-Fire w ↦ decodes _ _ _ w.in-Fire.is (suits c) (w.result-is ∙ ap (λ x. call.Fire x) w.only.ensures.value) (ap body_of w.result-is ∙ ap (λ x. Some x) w.only.ensures.back)
-      | in-Send w ↦ decodes_empty _ _ _ w.in-Send.is (suits c) (λ n. refl) w.result-is (ap body_of w.result-is)
-      | in-Lose w ↦ decodes _ _ _ w.in-Lose.is (suits c) (w.result-is ∙ ap (λ x. call.Lose x) w.only-in-Lose.ensures.value) (ap body_of w.result-is ∙ ap (λ x. Some x) w.only-in-Lose.ensures.back)
-      | in-Repeat w ↦ decodes _ _ _ w.in-Repeat.is (suits c) (w.result-is ∙ ap (λ x. call.Repeat x) w.only-in-Repeat.ensures.value) (ap body_of w.result-is ∙ ap (λ x. Some x) w.only-in-Repeat.ensures.back)
-      | in-Deliver w ↦ decodes _ _ _ w.in-Deliver.is (suits c) (w.result-is ∙ ap (λ x. call.Deliver x) w.only-in-Deliver.ensures.value) (ap body_of w.result-is ∙ ap (λ x. Some x) w.only-in-Deliver.ensures.back)
-      | in-Pass w ↦ decodes_empty _ _ _ w.in-Pass.is (suits c) (λ n. refl) w.result-is (ap body_of w.result-is)
-      | in-Restart w ↦ decodes _ _ _ w.in-Restart.is (suits c) (w.result-is ∙ w.restart.ensures.call) (ap body_of w.result-is ∙ w.restart.ensures.back)
-      | in-Show w ↦ decodes_empty _ _ _ w.in-Show.is (suits c) (λ n. refl) w.result-is (ap body_of w.result-is)
-      | in-MarkDone w ↦ decodes _ _ _ w.in-MarkDone.is (suits c) (w.result-is ∙ w.mark_done.ensures.call) (ap body_of w.result-is ∙ w.mark_done.ensures.back)
-    ]
+pub returns-in-MarkDone-len6-clause-writes_back : goal.returns-in-MarkDone-len6-clause-writes_back
+returns-in-MarkDone-len6-clause-writes_back c =
+    let is = c.in-MarkDone-len6.is in
+    let b = c.in-MarkDone-len6.field-0.now in
+    let low : 6 ≤ length b = rw is at c.in-MarkDone-len6.len_at_least in
+    let high : length b < 7 = rw is at c.in-MarkDone-len6.len_below in
+    let f = rw is at c.from_le_bytes-in-MarkDone-len6.ensures in
+    let g = rw is at c.from_le_bytes-in-MarkDone-len6-2.ensures in
+    let stop : Two b 0 c.from_le_bytes-in-MarkDone-len6.result = search rules in
+    let serial : Four b 2 c.from_le_bytes-in-MarkDone-len6-2.result = search rules in
+    rw is (ap (λ bs. Some (framed kind.MarkDone bs)) (done_spelt b _ _ (omega arith) stop serial))
 
-pub returns : goal.returns
-returns c = record { call = (met c).forth; writes_back = (met c).back }
+pub returns-in-Restart-len7-clause-writes_back : goal.returns-in-Restart-len7-clause-writes_back
+returns-in-Restart-len7-clause-writes_back c =
+    let is = c.in-Restart-len7.is in
+    let b = c.in-Restart-len7.field-0.now in
+    let low : 7 ≤ length b = rw is at c.in-Restart-len7.len_at_least in
+    let high : length b < 8 = rw is at c.in-Restart-len7.len_below in
+    let f = rw is at c.from_le_bytes-in-Restart-len7.ensures in
+    let left : Four b 1 c.from_le_bytes-in-Restart-len7.result = search rules in
+    rw is (ap (λ bs. Some (framed kind.Restart bs)) (restart_spelt b _ (omega arith) left))

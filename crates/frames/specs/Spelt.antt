@@ -1,4 +1,4 @@
--- A list of known length is its elements, written out.
+-- A list of known length is its elements, written out. Assumes nothing.
 use Rattle.std.proofs.Common.{◌≡◌, ℕ, zero, suc, List, [], ◌∷◌, length, get_or, sym, refl, ap, ◌∙◌}
 
 -- so many bytes from a place on
