@@ -11,25 +11,21 @@ use Rattle.law.specs.Node.{Kit, Node, Free, commit_row, commit_watermark}
 use Rattle.ledger.specs.Kept.{Kept}
 
 -- the row of a stop is the one that the store keeps for it
-pub record RowRead (Fit : Type 0) (s t : Stored) (q : ℕ) (r : Option StopRow) : Type 0 where
-  pub fits : Fit
+pub record RowRead (s t : Stored) (q : ℕ) (r : Option StopRow) : Type 0 where
   pub means : t ≡ s
   pub row : (n : Node) → Kept s n → n.power.on ≡ true → q < stops → option_map row_of r ≡ Some (n.row q)
 
 -- the answer, and what is kept then, are those of a commit of the row
-pub record RowCommitted (Fit : Type 0) (kit : Kit) (free : Free) (s t : Stored) (q : ℕ) (new : Row) (a : Answer) : Type 0 where
-  pub fits : Fit
+pub record RowCommitted (kit : Kit) (free : Free) (s t : Stored) (q : ℕ) (new : Row) (a : Answer) : Type 0 where
   pub answer : (n : Node) → Kept s n → n.power.on ≡ true → q < stops → a ≡ (commit_row kit free q new n).0
   pub kept : (n : Node) → Kept s n → n.power.on ≡ true → q < stops → Kept t (commit_row kit free q new n).1
 
 -- the watermark is the one that the store keeps
-pub record WatermarkRead (Fit : Type 0) (s t : Stored) (r : Option ℕ) : Type 0 where
-  pub fits : Fit
+pub record WatermarkRead (s t : Stored) (r : Option ℕ) : Type 0 where
   pub means : t ≡ s
   pub watermark : (n : Node) → Kept s n → n.power.on ≡ true → r ≡ Some n.w
 
 -- the answer, and what is kept then, are those of a commit of the watermark
-pub record WatermarkCommitted (Fit : Type 0) (kit : Kit) (free : Free) (s t : Stored) (w : ℕ) (a : Answer) : Type 0 where
-  pub fits : Fit
+pub record WatermarkCommitted (kit : Kit) (free : Free) (s t : Stored) (w : ℕ) (a : Answer) : Type 0 where
   pub answer : (n : Node) → Kept s n → n.power.on ≡ true → a ≡ (commit_watermark kit free w n).0
   pub kept : (n : Node) → Kept s n → n.power.on ≡ true → w ≤ last_time → Kept t (commit_watermark kit free w n).1

@@ -2,6 +2,7 @@
 // bytes ends here.
 #![tactic(auto)]
 
+mod paged;
 mod stop_rows;
 mod watermark;
 

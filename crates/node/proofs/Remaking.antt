@@ -24,8 +24,8 @@ use Rattle.node.specs.Shows.{Beside, Follows}
 use Rattle.node.specs.Remaking.{FollowsBelow}
 
 -- the names that were added are those of the row
-pub same_added : {Fit : Type 0} {m m' : Meaning} {i : ℕ} {ns ns' : List Name} {a : Answer} → ns ≡ ns' → AddedAll Fit m i ns a m' → AddedAll Fit m i ns' a m'
-same_added {Fit} {m} {m'} {i} {ns} {ns'} {a} e added = subst (λ (xs : List Name). AddedAll Fit m i xs a m') e added
+pub same_added : {m m' : Meaning} {i : ℕ} {ns ns' : List Name} {a : Answer} → ns ≡ ns' → AddedAll m i ns a m' → AddedAll m i ns' a m'
+same_added {m} {m'} {i} {ns} {ns'} {a} e added = subst (λ (xs : List Name). AddedAll m i xs a m') e added
 
 -- a stop is below i + 1 if it is below i, or is i
 below_more : (s i : ℕ) → (s ≡ i → ⊥) → ltb s (i + 1) ≡ ltb s i
@@ -108,8 +108,8 @@ pending_line rows i queue h e =
 
 module _ (c : Computation (List ℕ)) (i : ℕ) (b b' : Beside) (n : LawNode) (below : i < stops) (few : length (n.row i).names ≤ most_names) (f : FollowsBelow c i b n) where
   pub follows_more
-      : {Fit : Type 0} (a : Answer) (d : Option ℕ) (o : Option Production)
-      → AddedAll Fit b.names i (n.row i).names a b'.names
+      : (a : Answer) (d : Option ℕ) (o : Option Production)
+      → AddedAll b.names i (n.row i).names a b'.names
       → b'.due ≡ changed i d b.due
       → d ≡ c.due (n.row i).state
       → b'.shown ≡ changed i o b.shown

@@ -1,5 +1,5 @@
 -- What a node shows after a commit. Assumes nothing.
-use Rattle.std.proofs.Common.{◌≡◌, ℕ, ◌<◌, ◌≤◌, true, List, Some, None, Option, sym, refl, ap, ◌∙◌, subst, arith}
+use Rattle.std.proofs.Common.{◌≡◌, ℕ, ◌<◌, ◌≤◌, true, List, Some, Option, sym, refl, ap, ◌∙◌, subst}
 use Rattle.model.specs.Computation.{Computation}
 use Rattle.model.specs.Limits.{stops, last_time}
 use Rattle.model.specs.OnBytes.{on_bytes}
@@ -39,18 +39,14 @@ rewrapped wrap t = record { answer = ap wrap t.answer; shows = t.shows }
 
 -- what a commit promises for what is free, given by its parts
 pub with_free
-    : {Fit : Type 0} {kit : Kit} {s t : Stored} {q : ℕ} {new : Row} {a : Answer} (free : Free) {owed : ℕ} {point : ℕ → CutPoint}
+    : {kit : Kit} {s t : Stored} {q : ℕ} {new : Row} {a : Answer} (free : Free) {owed : ℕ} {point : ℕ → CutPoint}
     → free.owed ≡ owed
     → free.point ≡ point
-    → RowCommitted Fit kit (record { owed = owed; point = point; wake = free.wake }) s t q new a
-    → RowCommitted Fit kit free s t q new a
-with_free {Fit} {kit} {s} {t} {q} {new} {a} free {owed} {point} e f did =
-    subst (λ (x : ℕ). RowCommitted Fit kit (record { owed = x; point = free.point; wake = free.wake }) s t q new a) (sym e)
-    (subst (λ (x : ℕ → CutPoint). RowCommitted Fit kit (record { owed = owed; point = x; wake = free.wake }) s t q new a) (sym f) did)
-
--- a row that could not be read is none of a node
-pub read_none : (r : Row) → option_map row_of None ≡ Some r → ⊥
-read_none r e = let z : ◌≡◌ {A = ℕ} 0 1 = cc in omega arith
+    → RowCommitted kit (record { owed = owed; point = point; wake = free.wake }) s t q new a
+    → RowCommitted kit free s t q new a
+with_free {kit} {s} {t} {q} {new} {a} free {owed} {point} e f did =
+    subst (λ (x : ℕ). RowCommitted kit (record { owed = x; point = free.point; wake = free.wake }) s t q new a) (sym e)
+    (subst (λ (x : ℕ → CutPoint). RowCommitted kit (record { owed = owed; point = x; wake = free.wake }) s t q new a) (sym f) did)
 
 -- a row that was read is the node's
 pub read_is : (o : StopRow) (r : Row) → option_map row_of (Some o) ≡ Some r → row_of o ≡ r
@@ -69,8 +65,8 @@ module _ {S N C T : Type 0} (store : Stores S) (set : Sets N) (computation : Com
         : (floor : Option ℕ) (come : Option Name)
         → new.names ≡ renamed floor come (n.row s).names
         → Fresh come (n.row s).names
-        → RowCommitted (store.fit v'.store) (kit_of store set computation) free (store.model v.store) (store.model v'.store) s new Done
-        → Renamed (set.fit v'.names) (set.meaning v.names) (set.meaning v'.names) s floor come
+        → RowCommitted (kit_of store set computation) free (store.model v.store) (store.model v'.store) s new Done
+        → Renamed (set.meaning v.names) (set.meaning v'.names) s floor come
         → due_at v'.timers ≡ changed s ((on_bytes computation.operations).due new.state) (due_at v.timers)
         → shown_at v'.panel ≡ changed s (oldest new.pending) (shown_at v.panel)
         → (Line (lined v.queue) → s < stops → lined v'.queue ≡ requeued s new.pending (lined v.queue))
@@ -97,8 +93,6 @@ module _ {S N C T : Type 0} (store : Stores S) (set : Sets N) (computation : Com
           answer = answers;
           shows = record {
             kept = kept-after;
-            store_fit = did.fits;
-            names_fit = renames.fits;
             follows = λ _. follows_row kit free within c s new n (beside_of store set computation v) (beside_of store set computation v') lasts below f moved;
           };
         }
@@ -106,18 +100,15 @@ module _ {S N C T : Type 0} (store : Stores S) (set : Sets N) (computation : Com
     -- a commit of a row that was cut: the node is off, and nothing has to follow
     pub committed_cut
         : (a : Answer)
-        → RowCommitted (store.fit v'.store) (kit_of store set computation) free (store.model v.store) (store.model v'.store) s new a
+        → RowCommitted (kit_of store set computation) free (store.model v.store) (store.model v'.store) s new a
         → (a ≡ Done → ⊥)
-        → set.fit v'.names
         → Told (Shows store set computation v') (λ a. a) a (commit_row (kit_of store set computation) free s new n)
-    committed_cut a did cut fit =
+    committed_cut a did cut =
         let answers = did.answer n shows.kept on below in
         record {
           answer = answers;
           shows = record {
             kept = did.kept n shows.kept on below;
-            store_fit = did.fits;
-            names_fit = fit;
             follows = λ t. absurd (cut_ends store.cost (free.point s) n.power a answers cut t);
           };
         }
@@ -125,7 +116,7 @@ module _ {S N C T : Type 0} (store : Stores S) (set : Sets N) (computation : Com
   module _ (v : Node S N C) (s' : S) (t : ℕ) (free : Free) (n : LawNode) (shows : Shows store set computation v n) (on : n.power.on ≡ true) (small : t ≤ last_time) where
     -- likewise of the watermark
     pub advanced_done
-        : WatermarkCommitted (store.fit s') (kit_of store set computation) free (store.model v.store) (store.model s') t Done
+        : WatermarkCommitted (kit_of store set computation) free (store.model v.store) (store.model s') t Done
         → Told (Shows store set computation (record { store = s'; names = v.names; timers = v.timers; panel = v.panel; queue = v.queue; watermark = t; computation = v.computation })) (λ a. a) Done (commit_watermark (kit_of store set computation) free t n)
     unfolding kit c
     advanced_done did =
@@ -135,15 +126,13 @@ module _ {S N C T : Type 0} (store : Stores S) (set : Sets N) (computation : Com
           answer = answers;
           shows = record {
             kept = did.kept n shows.kept on small;
-            store_fit = did.fits;
-            names_fit = shows.names_fit;
             follows = λ _. follows_watermark kit free within c t n _ _ _ _ _ lasts (shows.follows on);
           };
         }
 
     pub advanced_cut
         : (a : Answer)
-        → WatermarkCommitted (store.fit s') (kit_of store set computation) free (store.model v.store) (store.model s') t a
+        → WatermarkCommitted (kit_of store set computation) free (store.model v.store) (store.model s') t a
         → (a ≡ Done → ⊥)
         → Told (Shows store set computation (record { store = s'; names = v.names; timers = v.timers; panel = v.panel; queue = v.queue; watermark = v.watermark; computation = v.computation })) (λ a. a) a (commit_watermark (kit_of store set computation) free t n)
     advanced_cut a did cut =
@@ -152,8 +141,6 @@ module _ {S N C T : Type 0} (store : Stores S) (set : Sets N) (computation : Com
           answer = answers;
           shows = record {
             kept = did.kept n shows.kept on small;
-            store_fit = did.fits;
-            names_fit = shows.names_fit;
             follows = λ t'. absurd (cut_ends store.cost (free.point stops) n.power a answers cut t');
           };
         }
@@ -166,10 +153,9 @@ module _ {S N C T : Type 0} (store : Stores S) (set : Sets N) (computation : Com
   pub stays_then : {v v₁ v₂ : Node S N C} → Stays store set computation v v₁ → Stays store set computation v₁ v₂ → Stays store set computation v v₂
   stays_then s t = record {
     shows = λ n h. t.shows n (s.shows n h);
-    fits = λ f. t.fits (s.fits f);
-    commits = λ f. t.commits (s.fits f) ∙ s.commits f;
-    restarts = λ f. t.restarts (s.fits f) ∙ s.restarts f;
+    commits = t.commits ∙ s.commits;
+    restarts = t.restarts ∙ s.restarts;
   }
 
   pub stays_here : {v : Node S N C} → Stays store set computation v v
-  stays_here = record { shows = λ n h. h; fits = λ f. f; commits = λ f. refl; restarts = λ f. refl }
+  stays_here = record { shows = λ n h. h; commits = refl; restarts = refl }

@@ -39,7 +39,7 @@ pub record Woke (t : Stored) (left tear : ℕ) (junk : List ℕ) (n : LawNode) :
   pub lasts : leb n.power.owed left ≡ true
   pub kept : Kept t (woken left tear t.power.owed n)
 
-module _ {Fit : Type 0} {point : CutPoint} {s t : Stored} {left tear : ℕ} {junk : List ℕ} {a : Answer} (did : Restarts Fit point s t left tear junk a) (n : LawNode) (k : Kept s n) where
+module _ {point : CutPoint} {s t : Stored} {left tear : ℕ} {junk : List ℕ} {a : Answer} (did : Restarts point s t left tear junk a) (n : LawNode) (k : Kept s n) where
   is_in_range : restart_fits tear junk ≡ true → Kept t (woken left tear t.power.owed n)
   is_in_range e = kept_woken s t left tear t.power.owed n k (did.means ∙ cond-true _ _ _ e)
 
@@ -77,7 +77,7 @@ module _ {Fit : Type 0} {point : CutPoint} {s t : Stored} {left tear : ℕ} {jun
 module _ {S N C T : Type 0} (store : Stores S) (set : Sets N) (computation : Computations C T) (v : Node S N C) (s' : S) (left tear : ℕ) (junk : List ℕ) (n : LawNode) (shows : Shows store set computation v n) where
   pub woken_not
       : (a : Answer)
-      → Restarts (store.fit s') (store.restart_cut v.store left) (store.model v.store) (store.model s') left tear junk a
+      → Restarts (store.restart_cut v.store left) (store.model v.store) (store.model s') left tear junk a
       → (a ≡ Done → ⊥)
       → Told {R = Result Answer Damaged} (Shows store set computation (record { store = s'; names = v.names; timers = v.timers; panel = v.panel; queue = v.queue; watermark = v.watermark; computation = v.computation })) (λ b. Ok b) (Ok a) (restart (free_of store set computation left v (record { store = s'; names = v.names; timers = v.timers; panel = v.panel; queue = v.queue; watermark = v.watermark; computation = v.computation })) left tear junk n)
   woken_not a did not_done =
@@ -88,8 +88,6 @@ module _ {S N C T : Type 0} (store : Stores S) (set : Sets N) (computation : Com
               answer = ap (λ (b : Answer). Ok b) x.1;
               shows = record {
                 kept = subst (λ (y : Stored). Kept y n) (sym x.2) shows.kept;
-                store_fit = did.fits;
-                names_fit = shows.names_fit;
                 follows = shows.follows;
               };
             })
@@ -99,8 +97,6 @@ module _ {S N C T : Type 0} (store : Stores S) (set : Sets N) (computation : Com
               answer = ap (λ (b : Answer). Ok b) x.answer;
               shows = record {
                 kept = x.kept;
-                store_fit = did.fits;
-                names_fit = shows.names_fit;
                 follows = λ on. absurd (x.cut on);
               };
             })

@@ -1,6 +1,5 @@
 -- What the calls of a node promise. Assumes nothing.
-use Rattle.std.specs.Prelude.{◌≡◌, ℕ, ◌<◌, Bool, true, cond, Some, None, Ok, Option, Result, nat_le}
-use Rattle.std.specs.Option.{option_map}
+use Rattle.std.specs.Prelude.{◌≡◌, ℕ, ◌<◌, Bool, true, cond, IsOkAnd, Some, None, Ok, Option, Result, nat_le}
 use Rattle.model.specs.Limits.{stops}
 use Rattle.model.specs.Row.{Row}
 use Rattle.model.specs.declared.answer.Answer.{Answer}
@@ -32,6 +31,10 @@ pub record Told {R : Type 0} (Shown : LawNode → Type 0) (wrap : Answer → R) 
   pub answer : r ≡ wrap after.0
   pub shows : Shown after.1
 
+-- so it is for every node that is shown and on
+abbrev pub WhileOn : {S N C T : Type 0} → Stores S → Sets N → Computations C T → Node S N C → (LawNode → Type 0) → Type 0
+WhileOn store set computation v So = (n : LawNode) → Shows store set computation v n → n.power.on ≡ true → So n
+
 module _ {S N C T : Type 0} (store : Stores S) (set : Sets N) (computation : Computations C T) (v v' : Node S N C) where
   -- for every node that is shown before a call, it answers as the law's call, and shows the law's node after it
   abbrev pub Does : Answer → (Kit → Free → LawNode → Answer × LawNode) → Type 0
@@ -47,19 +50,18 @@ module _ {S N C T : Type 0} (store : Stores S) (set : Sets N) (computation : Com
   -- the store and what it would be cut at stay, and what is shown
   pub record Stays : Type 0 where
     pub shows : (n : LawNode) → Shows store set computation v n → Shows store set computation v' n
-    pub fits : store.fit v.store → store.fit v'.store
-    pub commits : store.fit v.store → store.commit_cut v'.store ≡ store.commit_cut v.store
-    pub restarts : store.fit v.store → store.restart_cut v'.store ≡ store.restart_cut v.store
+    pub commits : store.commit_cut v'.store ≡ store.commit_cut v.store
+    pub restarts : store.restart_cut v'.store ≡ store.restart_cut v.store
 
   -- a stop's row was read
-  pub record Read (s : ℕ) (r : Option StopRow) : Type 0 where
+  pub record Read (s : ℕ) (r : Result StopRow Damaged) : Type 0 where
     pub stays : Stays
-    pub row : (n : LawNode) → Shows store set computation v n → n.power.on ≡ true → s < stops → option_map row_of r ≡ Some (n.row s)
+    pub row : WhileOn store set computation v (λ n. s < stops → IsOkAnd r (λ row. row_of row ≡ n.row s))
 
   -- a name was asked for
   pub record Asked (s : ℕ) (k : Name) (r : Bool) : Type 0 where
     pub stays : Stays
-    pub answer : (n : LawNode) → Shows store set computation v n → n.power.on ≡ true → s < stops → r ≡ seen k (n.row s).names
+    pub answer : WhileOn store set computation v (λ n. s < stops → r ≡ seen k (n.row s).names)
 
   -- something was found out about a node of which something is known
   pub record Finds {X : Type 0} (Known : LawNode → Type 0) (r : Result X Damaged) (f : LawNode → X) : Type 0 where

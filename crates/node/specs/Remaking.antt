@@ -1,5 +1,5 @@
 -- What is kept beside the rows, made again from the first of them. Assumes nothing.
-use Rattle.std.specs.Prelude.{◌≡◌, ℕ, ◌+◌, ◌*◌, ◌<◌, ◌≤◌, Bool, true, ◌&&◌, List, [], Ok, Result, nat_lt}
+use Rattle.std.specs.Prelude.{◌≡◌, ℕ, ◌+◌, ◌*◌, ◌<◌, ◌≤◌, true, ◌&&◌, List, [], IsOk, Ok, Result, nat_lt}
 use Rattle.model.specs.Computation.{Computation}
 use Rattle.model.specs.Limits.{stops, most_names}
 use Rattle.model.specs.OnBytes.{on_bytes}
@@ -34,38 +34,34 @@ module _ {S N C T : Type 0} (store : Stores S) (set : Sets N) (computation : Com
   pub record ShowsBelow (i : ℕ) (v : Node S N C) (n : LawNode) : Type 0 where
     pub kept : Kept (store.model v.store) n
     pub on : n.power.on ≡ true
-    pub store_fit : store.fit v.store
-    pub names_fit : set.fit v.names
     pub follows : FollowsBelow (on_bytes computation.operations) i (beside_of store set computation v) n
 
   -- the store stays, and nothing is kept beside its rows
   pub record Emptied (v v' : Node S N C) : Type 0 where
     pub store_is : v'.store ≡ v.store
-    pub names_fit : set.fit v'.names
     pub names : set.meaning v'.names ≡ nothing
     pub queue : lined v'.queue ≡ []
 
   -- a step that makes it follow the stops below j as well; the store means the same after it
-  pub record Grows (v v' : Node S N C) (i j : ℕ) (r : Bool) : Type 0 where
-    pub all : (n : LawNode) → ShowsBelow i v n → r ≡ true
+  pub record Grows (v v' : Node S N C) (i j : ℕ) (r : Result Unit Damaged) : Type 0 where
+    pub all : (n : LawNode) → ShowsBelow i v n → IsOk r
     pub shows : (n : LawNode) → ShowsBelow i v n → ShowsBelow j v' n
-    pub fits : store.fit v.store → store.fit v'.store
-    pub means : store.fit v.store → store.model v'.store ≡ store.model v.store
+    pub means : store.model v'.store ≡ store.model v.store
 
-  abbrev pub RemakesStop : Node S N C → Node S N C → ℕ → Bool → Type 0
+  abbrev pub RemakesStop : Node S N C → Node S N C → ℕ → Result Unit Damaged → Type 0
   RemakesStop v v' s r = s < stops → Grows v v' s (s + 1) r
 
-  abbrev pub RemakesStops : Node S N C → Node S N C → Bool → Type 0
+  abbrev pub RemakesStops : Node S N C → Node S N C → Result Unit Damaged → Type 0
   RemakesStops v v' r = Grows v v' 0 stops r
 
   -- a node that is on and whose queue is made anew is shown
-  pub record Remade (v v' : Node S N C) (n : LawNode) (r : Bool) : Type 0 where
-    pub all : r ≡ true
+  pub record Remade (v v' : Node S N C) (n : LawNode) (r : Result Unit Damaged) : Type 0 where
+    pub all : IsOk r
     pub shows : Shows store set computation v' n
     pub means : store.model v'.store ≡ store.model v.store
 
-  abbrev pub Remakes : Node S N C → Node S N C → Bool → Type 0
-  Remakes v v' r = store.fit v.store → (n : LawNode) → Kept (store.model v.store) n → n.power.on ≡ true → n.queue ≡ pending_stops n.row → Remade v v' n r
+  abbrev pub Remakes : Node S N C → Node S N C → Result Unit Damaged → Type 0
+  Remakes v v' r = (n : LawNode) → Kept (store.model v.store) n → n.power.on ≡ true → n.queue ≡ pending_stops n.row → Remade v v' n r
 
   -- for every node that is shown before a restart, it answers as the law's, and shows the law's node after it
   abbrev pub Wakes : Node S N C → Node S N C → ℕ → Result Answer Damaged → (Free → LawNode → Answer × LawNode) → Type 0

@@ -59,6 +59,4 @@ module _ {S N C T : Type 0} (store : Stores S) (set : Sets N) (computation : Com
   -- the store keeps the rows, the watermark and the power; while the node is on, the rest follows
   pub record Shows (v : Node S N C) (n : LawNode) : Type 0 where
     pub kept : Kept (store.model v.store) n
-    pub store_fit : store.fit v.store
-    pub names_fit : set.fit v.names
     pub follows : n.power.on ≡ true → Follows (on_bytes computation.operations) (beside_of v) n

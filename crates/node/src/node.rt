@@ -13,6 +13,9 @@ use queue::Queue;
 use std::marker::PhantomData;
 pub use theory::shows_one;
 
+// The greatest time that a record or a watermark can have.
+const LAST_TIME: u32 = 4_000_000_000;
+
 // A row that no list of calls leaves.
 #[derive(Clone, Copy, PartialEq, Eq, Debug)]
 pub struct Damaged;

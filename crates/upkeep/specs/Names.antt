@@ -47,15 +47,12 @@ abbrev pub adding : Meaning → ℕ → Option Name → Meaning
 adding m s None = m
 adding m s (Some k) = after_add m s k
 
-pub record Forgot (Fit : Type 0) (m after : Meaning) (s : ℕ) (floor : Option ℕ) : Type 0 where
-  pub fits : Fit
+pub record Forgot (m after : Meaning) (s : ℕ) (floor : Option ℕ) : Type 0 where
   pub held : after.holds ≡ dropping m.holds s floor
 
-pub record Remembered (Fit : Type 0) (m after : Meaning) (s : ℕ) (come : Option Name) : Type 0 where
-  pub fits : Fit
+pub record Remembered (m after : Meaning) (s : ℕ) (come : Option Name) : Type 0 where
   pub means : after ≡ adding m s come
 
 -- a set that held exactly the names of the stops does so again
-pub record Renamed (Fit : Type 0) (m after : Meaning) (s : ℕ) (floor : Option ℕ) (come : Option Name) : Type 0 where
-  pub fits : Fit
+pub record Renamed (m after : Meaning) (s : ℕ) (floor : Option ℕ) (come : Option Name) : Type 0 where
   pub holds : (names : ℕ → List Name) → Holds m names → s < stops → Fresh come (names s) → Few (with_names s (renamed floor come (names s)) names) → Holds after (with_names s (renamed floor come (names s)) names)

@@ -3,33 +3,29 @@ ghost use Rattle.std.specs.Prelude.{◌≡◌, if◌then◌else◌, Some, None, 
 ghost use Rattle.upkeep.specs.Names.{Renamed, Forgot, Remembered};
 
 use model::Name;
-use names::NameSet;
+use names::{NameSet, Taken};
 
 // Takes a stop's names below the floor out of the set, if any fell, and puts in the one that came, if one did.
 pub fn rename<N: NameSet>(names: &mut N, stop: u16, floor: Option<u32>, come: Option<Name>)
-    ensures { N.fit names.old → Renamed (N.fit names.new) (N.meaning names.old) (N.meaning names.new) stop floor come }
+    ensures { Renamed (N.meaning names.old) (N.meaning names.new) stop floor come }
 {
     forget(names, stop, floor);
     remember(names, stop, come);
 }
 
 fn forget<N: NameSet>(names: &mut N, stop: u16, floor: Option<u32>)
-    ensures { N.fit names.old → Forgot (N.fit names.new) (N.meaning names.old) (N.meaning names.new) stop floor }
+    ensures { Forgot (N.meaning names.old) (N.meaning names.new) stop floor }
 {
-    match floor {
-        Some(floor) => names.drop_below(stop, floor),
-        None => {}
+    if let Some(floor) = floor {
+        names.drop_below(stop, floor);
     }
 }
 
 fn remember<N: NameSet>(names: &mut N, stop: u16, come: Option<Name>)
-    ensures { N.fit names.old → Remembered (N.fit names.new) (N.meaning names.old) (N.meaning names.new) stop come }
+    ensures { Remembered (N.meaning names.old) (N.meaning names.new) stop come }
 {
-    match come {
-        Some(name) => {
-            let _ = names.add(stop, name);
-        }
-        None => {}
+    if let Some(name) = come {
+        let _ = names.add(Taken { stop, name });
     }
 }
 
@@ -37,5 +33,5 @@ fn remember<N: NameSet>(names: &mut N, stop: u16, come: Option<Name>)
 pub fn fallen(before: usize, after: usize, floor: u32) -> Option<u32>
     ensures { result ≡ (if nat_le after before then Some floor else None) }
 {
-    if after <= before { Some(floor) } else { None }
+    (after <= before).then_some(floor)
 }

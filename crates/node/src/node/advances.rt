@@ -1,19 +1,17 @@
 // The watermark advances.
-ghost use Rattle.law.specs.Node.{advance as advance_of};
+ghost use Rattle.law.specs.Node.{advance};
 ghost use Rattle.node.specs.Promises.{Does};
 
-use super::Node;
+use super::{LAST_TIME, Node};
 use computations::Computation;
 use ledger::commit_watermark;
 use model::Answer;
 use names::NameSet;
 use stores::Store;
 
-const LAST_TIME: u32 = 4_000_000_000;
-
 impl<S: Store, N: NameSet, C: Computation> Node<S, N, C> {
     pub fn advance(&mut self, time: u32) -> Answer
-        ensures { Does S.Store N.NameSet C.Computation self.old self.new result (λ kit free n. advance_of kit free time n) }
+        ensures { Does S.Store N.NameSet C.Computation self.old self.new result (λ kit free n. advance kit free time n) }
     {
         if time > LAST_TIME {
             return Answer::OutOfRange;

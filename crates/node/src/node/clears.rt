@@ -1,6 +1,6 @@
 // A production is cleared: it was acknowledged, or is done.
 ghost use Rattle.std.specs.Prelude.{◌≡◌};
-ghost use Rattle.law.specs.Node.{clear as clear_of};
+ghost use Rattle.law.specs.Node.{clear};
 ghost use Rattle.law.specs.Rows.{is_oldest};
 ghost use Rattle.rows.specs.Meaning.{row_of};
 ghost use Rattle.node.specs.Promises.{Answers};
@@ -15,7 +15,7 @@ use stores::Store;
 impl<S: Store, N: NameSet, C: Computation> Node<S, N, C> {
     // Clears a stop's oldest pending production, if it has this serial.
     pub fn clear(&mut self, stop: u16, serial: u32) -> Result<Answer, Damaged>
-        ensures { Answers S.Store N.NameSet C.Computation self.old self.new result (λ kit free n. clear_of kit free stop serial n) }
+        ensures { Answers S.Store N.NameSet C.Computation self.old self.new result (λ kit free n. clear kit free stop serial n) }
     {
         if stop >= 32 {
             return Ok(Answer::OutOfRange);
@@ -23,9 +23,7 @@ impl<S: Store, N: NameSet, C: Computation> Node<S, N, C> {
         if !self.is_on() {
             return Ok(Answer::Off);
         }
-        let Some(mut row) = self.row(stop) else {
-            return Err(Damaged);
-        };
+        let mut row = self.row(stop)?;
         if !is_oldest(&row, serial) {
             return Ok(Answer::NotOldest);
         }
@@ -37,8 +35,5 @@ impl<S: Store, N: NameSet, C: Computation> Node<S, N, C> {
 fn is_oldest(row: &StopRow, serial: u32) -> bool
     ensures { result ≡ is_oldest serial (row_of row.now).pending }
 {
-    match row.pending() {
-        [] => false,
-        [oldest, ..] => oldest.serial == serial,
-    }
+    row.oldest().is_some_and(|oldest| oldest.serial == serial)
 }

@@ -3,11 +3,11 @@ ghost use Rattle.std.specs.Prelude.{◌≡◌};
 ghost use Rattle.rows.specs.Meaning.{row_of};
 ghost use Rattle.node.specs.Promises.{Read, Asked, Commits};
 
-use super::Node;
+use super::{Damaged, Node};
 use computations::{Computation, due_in};
 use ledger::{commit_row, read_row};
 use model::{Answer, Name};
-use names::NameSet;
+use names::{NameSet, Taken};
 use rows::StopRow;
 use stores::Store;
 use upkeep::{rename, requeue};
@@ -19,16 +19,16 @@ impl<S: Store, N: NameSet, C: Computation> Node<S, N, C> {
         self.store.is_on()
     }
 
-    pub(crate) fn row(&mut self, stop: u16) -> Option<StopRow>
+    pub(crate) fn row(&mut self, stop: u16) -> Result<StopRow, Damaged>
         ensures { Read S.Store N.NameSet C.Computation self.old self.new stop result }
     {
-        read_row(&mut self.store, stop)
+        read_row(&mut self.store, stop).ok_or(Damaged)
     }
 
     pub(crate) fn has_seen(&mut self, stop: u16, name: Name) -> bool
         ensures { Asked S.Store N.NameSet C.Computation self.old self.new stop name result }
     {
-        self.names.has(stop, name)
+        self.names.has(Taken { stop, name })
     }
 
     // The only commit of a stop's row: once it is done, all that is kept beside the rows follows. Of the row's names,

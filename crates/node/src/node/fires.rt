@@ -2,7 +2,7 @@
 ghost use Rattle.std.specs.Prelude.{◌≡◌, ◌<◌, true};
 ghost use Rattle.model.specs.Limits.{stops};
 ghost use Rattle.model.specs.OnBytes.{on_bytes};
-ghost use Rattle.law.specs.Node.{fire as fire_of, fire_as};
+ghost use Rattle.law.specs.Node.{fire, fire_as};
 ghost use Rattle.model.specs.Row.{room_for_one};
 ghost use Rattle.steps.specs.Steps.{Reached};
 ghost use Rattle.agenda.specs.Meaning.{due_at, earliest};
@@ -18,7 +18,7 @@ use stores::Store;
 impl<S: Store, N: NameSet, C: Computation> Node<S, N, C> {
     // Fires the earliest due that the watermark has reached, ties to the lowest stop.
     pub fn fire(&mut self) -> Result<Answer, Damaged>
-        ensures { Answers S.Store N.NameSet C.Computation self.old self.new result (λ kit free n. fire_of kit free n) }
+        ensures { Answers S.Store N.NameSet C.Computation self.old self.new result (λ kit free n. fire kit free n) }
     {
         if !self.is_on() {
             return Ok(Answer::Off);
@@ -33,19 +33,18 @@ impl<S: Store, N: NameSet, C: Computation> Node<S, N, C> {
     fn due_stop(&self) -> Option<u16>
         ensures { result ≡ due_by self.now.watermark (earliest (due_at self.now.timers)) }
     {
-        match self.timers.first() {
-            Some((stop, due)) if due <= self.watermark => Some(stop),
-            _ => None,
-        }
+        let reached = self
+            .timers
+            .first()
+            .filter(|(_, due)| *due <= self.watermark);
+        reached.map(|(stop, _)| stop)
     }
 
     // Fires the due of a stop that the watermark has reached.
     fn fire_stop(&mut self, stop: u16) -> Result<Answer, Damaged>
         ensures { AnswersIf S.Store N.NameSet C.Computation self.old self.new (λ n. (n.power.on ≡ true) × (stop < stops) × Reached (on_bytes C.operations) n.w (n.row stop)) result (λ kit free n. fire_as kit free stop (room_for_one (n.row stop)) n) }
     {
-        let Some(mut row) = self.row(stop) else {
-            return Err(Damaged);
-        };
+        let mut row = self.row(stop)?;
         match fire_row::<C>(&mut row, self.watermark) {
             Ok(floor) => Ok(self.commit(stop, &row, Some(floor), None)),
             Err(refusal) => Ok(refusal),

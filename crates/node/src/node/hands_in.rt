@@ -4,15 +4,13 @@ ghost use Rattle.model.specs.Limits.{in_range};
 ghost use Rattle.law.specs.Node.{hand_in};
 ghost use Rattle.node.specs.Promises.{Answers, AnswersIf, judged_first};
 
-use super::{Damaged, Node};
+use super::{Damaged, LAST_TIME, Node};
 use computations::Computation;
 use model::{Answer, Record};
 use names::NameSet;
 use steps::take_record;
 use stores::Store;
 use upkeep::fallen;
-
-const LAST_TIME: u32 = 4_000_000_000;
 
 impl<S: Store, N: NameSet, C: Computation> Node<S, N, C> {
     // Takes a record, or says why not.
@@ -40,9 +38,7 @@ impl<S: Store, N: NameSet, C: Computation> Node<S, N, C> {
     fn take(&mut self, given: &Record) -> Result<Answer, Damaged>
         ensures { AnswersIf S.Store N.NameSet C.Computation self.old self.new (λ n. (in_range given.now ≡ true) × (n.power.on ≡ true)) result (λ kit free n. hand_in kit free given.now n) }
     {
-        let Some(mut row) = self.row(given.stop) else {
-            return Err(Damaged);
-        };
+        let mut row = self.row(given.stop)?;
         let seen = self.has_seen(given.stop, given.name);
         let before = row.names().len();
         match take_record::<C>(&mut row, true, self.watermark, seen, given) {

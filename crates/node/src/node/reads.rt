@@ -5,10 +5,10 @@ ghost use Rattle.model.specs.OnBytes.{on_bytes};
 ghost use Rattle.law.specs.Lists.{total};
 ghost use Rattle.law.specs.Node.{Node as LawNode};
 ghost use Rattle.law.specs.Pair.{turned_node};
-ghost use Rattle.model.specs.Row.{oldest as oldest_of};
-ghost use Rattle.law.specs.Stops.{greatest as greatest_of, lowest};
+ghost use Rattle.model.specs.Row.{oldest};
+ghost use Rattle.law.specs.Stops.{greatest, lowest};
 ghost use Rattle.queue.specs.Lines.{head_of};
-ghost use Rattle.node.specs.Promises.{Finds};
+ghost use Rattle.node.specs.Promises.{Finds, WhileOn};
 ghost use Rattle.node.specs.Shows.{Shows};
 
 use super::{Damaged, Node};
@@ -21,7 +21,7 @@ use stores::Store;
 impl<S: Store, N: NameSet, C: Computation> Node<S, N, C> {
     // The stop whose turn it is to send.
     pub fn queue_head(&self) -> Option<u16>
-        ensures { (n : LawNode) → Shows S.Store N.NameSet C.Computation self.now n → n.power.on ≡ true → result ≡ head_of n.queue }
+        ensures { WhileOn S.Store N.NameSet C.Computation self.now (λ n. result ≡ head_of n.queue) }
     {
         self.queue.head()
     }
@@ -35,14 +35,14 @@ impl<S: Store, N: NameSet, C: Computation> Node<S, N, C> {
 
     // A stop's oldest pending production.
     pub fn oldest(&self, stop: u16) -> Option<Production>
-        ensures { (n : LawNode) → Shows S.Store N.NameSet C.Computation self.now n → n.power.on ≡ true → stop < stops → result ≡ oldest_of (n.row stop).pending }
+        ensures { WhileOn S.Store N.NameSet C.Computation self.now (λ n. stop < stops → result ≡ oldest (n.row stop).pending) }
     {
         self.panel.at(stop)
     }
 
     // Of each stop's oldest pending production the one with the greatest amount, with its stop; ties go to the lowest.
     pub fn greatest(&self) -> Option<(u16, Production)>
-        ensures { (n : LawNode) → Shows S.Store N.NameSet C.Computation self.now n → n.power.on ≡ true → result ≡ greatest_of n.row }
+        ensures { WhileOn S.Store N.NameSet C.Computation self.now (λ n. result ≡ greatest n.row) }
     {
         self.panel.first()
     }
@@ -53,10 +53,7 @@ impl<S: Store, N: NameSet, C: Computation> Node<S, N, C> {
     {
         let mut low = self.watermark;
         for stop in 0..32 {
-            match self.row(stop) {
-                Some(row) => low = low_in::<C>(&row, low),
-                None => return Err(Damaged),
-            }
+            low = low_in::<C>(&self.row(stop)?, low);
         }
         Ok(low)
     }
@@ -65,33 +62,24 @@ impl<S: Store, N: NameSet, C: Computation> Node<S, N, C> {
     pub fn pending_amount(&mut self, stop: u16) -> Result<u32, Damaged>
         ensures { Finds S.Store N.NameSet C.Computation self.old self.new (λ n. (n.power.on ≡ true) × (stop < stops)) result (λ n. total (map (λ p. p.amount) (n.row stop).pending)) }
     {
-        match self.row(stop) {
-            Some(row) => Ok(pending_amount(&row)),
-            None => Err(Damaged),
-        }
+        Ok(pending_amount(&self.row(stop)?))
     }
 }
 
 impl<S: Store, N: NameSet, C: Conserving> Node<S, N, C> {
     // How much a stop's state holds.
     pub fn held(&mut self, stop: u16) -> Result<u32, Damaged>
-        ensures { Finds S.Store N.NameSet C.Computation self.old self.new (λ n. (n.power.on ≡ true) × (stop < stops)) result (λ n. C.holds (C.Computation.operations.load (n.row stop).state)) }
+        ensures { Finds S.Store N.NameSet C.Computation self.old self.new (λ n. (n.power.on ≡ true) × (stop < stops)) result (λ n. C.holds (C.operations.load (n.row stop).state)) }
     {
-        match self.row(stop) {
-            Some(row) => Ok(held_in::<C>(row.state())),
-            None => Err(Damaged),
-        }
+        Ok(held_in::<C>(self.row(stop)?.state()))
     }
 }
 
 impl<S: Store, N: NameSet, C: Totalling> Node<S, N, C> {
     // The total of what a stop has taken.
     pub fn total(&mut self, stop: u16) -> Result<u32, Damaged>
-        ensures { Finds S.Store N.NameSet C.Computation self.old self.new (λ n. (n.power.on ≡ true) × (stop < stops)) result (λ n. C.totals (C.Computation.operations.load (n.row stop).state)) }
+        ensures { Finds S.Store N.NameSet C.Computation self.old self.new (λ n. (n.power.on ≡ true) × (stop < stops)) result (λ n. C.totals (C.operations.load (n.row stop).state)) }
     {
-        match self.row(stop) {
-            Some(row) => Ok(total_in::<C>(row.state())),
-            None => Err(Damaged),
-        }
+        Ok(total_in::<C>(self.row(stop)?.state()))
     }
 }

@@ -1,6 +1,6 @@
 // Making a node, and power returns to it: what is kept beside the rows is made again from them, stops rising.
 ghost use Rattle.std.specs.Prelude.{◌≡◌, true, false};
-ghost use Rattle.law.specs.Node.{Node as LawNode, restart as restart_of};
+ghost use Rattle.law.specs.Node.{Node as LawNode, restart};
 ghost use Rattle.law.specs.Run.{NewNode};
 ghost use Rattle.ledger.specs.Kept.{Kept, Blank};
 ghost use Rattle.node.specs.Remaking.{Emptied, Wakes, Remakes, RemakesStops, RemakesStop};
@@ -14,14 +14,14 @@ use model::Answer;
 use names::{NameSet, add_all};
 use queue::Queue;
 use std::marker::PhantomData;
-use stores::Store;
+use stores::{Store, Supply};
 use upkeep::requeue;
 
 impl<S: Store, N: NameSet, C: Computation> Node<S, N, C> {
     // A node over a store that is off. Over a blank store nothing has happened to it yet.
     pub fn new(store: S, mut names: N) -> Node<S, N, C>
-        ensures blank { S.Store.fit store → Blank (S.Store.model store) → (n : LawNode) × NewNode n × Shows S.Store N.NameSet C.Computation result n }
-        ensures kept { S.Store.fit store → (n : LawNode) → Kept (S.Store.model store) n → n.power.on ≡ false → Shows S.Store N.NameSet C.Computation result n }
+        ensures blank { Blank (S.Store.model store) → (n : LawNode) × NewNode n × Shows S.Store N.NameSet C.Computation result n }
+        ensures kept { (n : LawNode) → Kept (S.Store.model store) n → n.power.on ≡ false → Shows S.Store N.NameSet C.Computation result n }
     {
         names.clear();
         Node {
@@ -35,34 +35,26 @@ impl<S: Store, N: NameSet, C: Computation> Node<S, N, C> {
         }
     }
 
-    // Power returns for so many writes; the write that it fails at leaves what the tear says, or the junk page.
-    pub fn restart(&mut self, left: u32, tear: u8, junk: &[u8]) -> Result<Answer, Damaged>
-        ensures { Wakes S.Store N.NameSet C.Computation self.old self.new left result (λ free n. restart_of free left tear junk.now n) }
+    // Power returns; the write that it fails at leaves what the tear says, or the junk page.
+    pub fn restart(&mut self, supply: Supply<'_>) -> Result<Answer, Damaged>
+        ensures { Wakes S.Store N.NameSet C.Computation self.old self.new supply.entry.left result (λ free n. restart free supply.entry.left supply.entry.tear supply.entry.junk.now n) }
     {
-        match self.store.restart(left, tear, junk) {
+        match self.store.restart(supply) {
             Answer::Done => {
-                if self.remake() {
-                    Ok(Answer::Done)
-                } else {
-                    Err(Damaged)
-                }
+                self.remake()?;
+                Ok(Answer::Done)
             }
             other => Ok(other),
         }
     }
 
-    // Makes all that is kept beside the rows again, and says whether every row could be read.
-    fn remake(&mut self) -> bool
+    // Makes all that is kept beside the rows again.
+    fn remake(&mut self) -> Result<(), Damaged>
         ensures { Remakes S.Store N.NameSet C.Computation self.old self.new result }
     {
         self.empty();
-        match read_watermark(&mut self.store) {
-            Some(watermark) => {
-                self.watermark = watermark;
-                self.remake_stops()
-            }
-            None => false,
-        }
+        self.watermark = read_watermark(&mut self.store).ok_or(Damaged)?;
+        self.remake_stops()
     }
 
     // Nothing is kept beside the rows any more.
@@ -75,29 +67,23 @@ impl<S: Store, N: NameSet, C: Computation> Node<S, N, C> {
         self.queue.clear();
     }
 
-    fn remake_stops(&mut self) -> bool
+    fn remake_stops(&mut self) -> Result<(), Damaged>
         ensures { RemakesStops S.Store N.NameSet C.Computation self.old self.new result }
     {
         for stop in 0..32 {
-            if !self.remake_stop(stop) {
-                return false;
-            }
+            self.remake_stop(stop)?;
         }
-        true
+        Ok(())
     }
 
-    fn remake_stop(&mut self, stop: u16) -> bool
+    fn remake_stop(&mut self, stop: u16) -> Result<(), Damaged>
         ensures { RemakesStop S.Store N.NameSet C.Computation self.old self.new stop result }
     {
-        match read_row(&mut self.store, stop) {
-            Some(row) => {
-                let _ = add_all(&mut self.names, stop, row.names());
-                self.timers.set(stop, due_in::<C>(row.state()));
-                self.panel.set(stop, row.oldest());
-                requeue(&mut self.queue, stop, &row);
-                true
-            }
-            None => false,
-        }
+        let row = read_row(&mut self.store, stop).ok_or(Damaged)?;
+        let _ = add_all(&mut self.names, stop, row.names());
+        self.timers.set(stop, due_in::<C>(row.state()));
+        self.panel.set(stop, row.oldest());
+        requeue(&mut self.queue, stop, &row);
+        Ok(())
     }
 }

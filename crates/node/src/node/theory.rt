@@ -6,8 +6,6 @@ use names::NameSet;
 use stores::Store;
 
 // All nodes of the law that one value shows agree in rows, watermark and power and, while on, in the queue.
-pub fn shows_one<S: Store, N: NameSet, C: Computation>() -> bool
+pub fn shows_one<S: Store, N: NameSet, C: Computation>()
     ensures { ShowsOne S.Store N.NameSet C.Computation }
-{
-    true
-}
+{}

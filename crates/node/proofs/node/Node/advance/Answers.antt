@@ -18,7 +18,7 @@ returns-in-Done g c = λ n shows.
     let store-on : (store.model v.store).power.on ≡ true = search rules in
     let past : v.watermark < c.args.time = search rules in
     let on = sym (is_on store g.N.NameSet g.C.Computation g.met.S.Store.turn_within v n shows) ∙ store-on in
-    let did = c.in-Done.ensures shows.store_fit (on_bytes g.C.Computation.operations) (store.restart_cut v.store 0) in
+    let did = c.in-Done.ensures (on_bytes g.C.Computation.operations) (store.restart_cut v.store 0) in
     told_by (cond-true _ _ _ (le-leb c.args.time last_time small) ∙ cond-true _ _ _ on ∙ cond-false _ _ _ (lt-leb c.args.time n.w (omega (arith, (shows.follows on).watermark))))
     (advanced_done store g.N.NameSet g.C.Computation g.met.S.Store.turn_within v c.commit_watermark.new.store c.args.time _ n shows on small did)
 
@@ -30,6 +30,6 @@ returns-in_default g c = λ n shows.
     let store-on : (store.model v.store).power.on ≡ true = search rules in
     let past : v.watermark < c.args.time = search rules in
     let on = sym (is_on store g.N.NameSet g.C.Computation g.met.S.Store.turn_within v n shows) ∙ store-on in
-    let did = c.commit_watermark.ensures shows.store_fit (on_bytes g.C.Computation.operations) (store.restart_cut v.store 0) in
+    let did = c.commit_watermark.ensures (on_bytes g.C.Computation.operations) (store.restart_cut v.store 0) in
     told_by (cond-true _ _ _ (le-leb c.args.time last_time small) ∙ cond-true _ _ _ on ∙ cond-false _ _ _ (lt-leb c.args.time n.w (omega (arith, (shows.follows on).watermark))))
     (advanced_cut store g.N.NameSet g.C.Computation g.met.S.Store.turn_within v c.commit_watermark.new.store c.args.time _ n shows on small _ did c.in_default.not-Done)

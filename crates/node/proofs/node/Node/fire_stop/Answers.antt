@@ -8,7 +8,7 @@ use Rattle.model.specs.Answers.{is_done}
 use Rattle.model.specs.Row.{room_for_one}
 use Rattle.node.specs.Shows.{kit_of, free_of}
 use Rattle.node.proofs.Judging.{undone, fired_names}
-use Rattle.node.proofs.Showing.{told_by, rewrapped, read_is}
+use Rattle.node.proofs.Showing.{told_by, rewrapped}
 use Rattle.node.proofs.Taking.{same_fired, same_reached}
 use Rattle.node.proofs.node.Node.fire_stop.Goals as goal
 
@@ -20,8 +20,8 @@ returns-in-Ok g c = λ n shows known.
     let ops = on_bytes computation.operations in
     let v = c.args.self.now in
     let s = c.args.stop in
-    let read = c.in-Some.ensures in
-    let row_is = read_is c.in-Some.row (n.row s) (read.row n shows known.0 known.1) in
+    let read = c.in_ok-row.ensures in
+    let row_is = read.row n shows known.0 known.1 in
     let Shows-then = read.stays.shows n shows in
     let w-is = (Shows-then.follows known.0).watermark in
     let fired = same_fired ops (sym row_is) w-is (c.in-Ok.ensures (same_reached ops (sym row_is) w-is known.2)) in
@@ -29,14 +29,14 @@ returns-in-Ok g c = λ n shows known.
     let kit = kit_of store set computation in
     told_by (cond-true _ _ _ (ap is_done fired.room) ∙ ap (λ (r : Row). commit_row kit free s r n) (sym fired.row))
     (rewrapped (λ a. Ok a)
-    (c.commit.ensures n Shows-then known.0 known.1 (fired_names ops n.w (n.row s) _ _ fired) tt free refl (sym (read.stays.commits shows.store_fit))))
+    (c.commit.ensures n Shows-then known.0 known.1 (fired_names ops n.w (n.row s) _ _ fired) tt free refl (sym read.stays.commits)))
 
 pub returns-in-Err : goal.returns-in-Err
 returns-in-Err g c = λ n shows known.
     let ops = on_bytes g.C.Computation.operations in
     let s = c.args.stop in
-    let read = c.in-Some.ensures in
-    let row_is = read_is c.in-Some.row (n.row s) (read.row n shows known.0 known.1) in
+    let read = c.in_ok-row.ensures in
+    let row_is = read.row n shows known.0 known.1 in
     let Shows-then = read.stays.shows n shows in
     let w-is = (Shows-then.follows known.0).watermark in
     let refused = c.in-Err.ensures (same_reached ops (sym row_is) w-is known.2) in

@@ -1,4 +1,4 @@
-use Rattle.std.proofs.Common.{◌≡◌, sym, ap, ◌∙◌, subst}
+use Rattle.std.proofs.Common.{◌≡◌, Some, arith, sym, ap, ◌∙◌, subst}
 use Rattle.model.specs.OnBytes.{on_bytes}
 use Rattle.model.specs.Store.{Stored}
 use Rattle.ledger.specs.Kept.{Kept}
@@ -6,23 +6,21 @@ use Rattle.node.specs.Remaking.{ShowsBelow}
 use Rattle.node.proofs.Remaking.{follows_none, follows_all}
 use Rattle.node.proofs.node.Node.remake.Goals as goal
 
-pub returns-in-Some : goal.returns-in-Some
-returns-in-Some g c = λ fit₀ n kept₀ on queue_is.
+pub returns : goal.returns
+returns g c = λ n kept₀ on queue_is.
     let store = g.S.Store in
     let set = g.N.NameSet in
     let computation = g.C.Computation in
     let ops = on_bytes computation.operations in
     let emptied = c.empty.ensures in
-    let fit = subst (λ s. store.fit s) (sym emptied.store_is) fit₀ in
     let kept = subst (λ s. Kept (store.model s) n) (sym emptied.store_is) kept₀ in
-    let read = c.in-Some.ensures.reads fit in
-    let w-is : c.in-Some.watermark ≡ n.w = (let e = read.watermark n kept on in cc) in
+    let read = c.read_watermark.ensures.reads in
+    let got : c.read_watermark.result ≡ Some c.in_ok-self.field-0 = grind arith in
+    let w-is : c.in_ok-self.field-0 ≡ n.w = (let e = sym got ∙ read.watermark n kept on in cc) in
     let first : ShowsBelow store set computation 0 _ n =
     record {
       kept = subst (λ (x : Stored). Kept x n) (sym read.means) kept;
       on = on;
-      store_fit = read.fits;
-      names_fit = emptied.names_fit;
       follows = follows_none ops _ n emptied.names emptied.queue w-is;
     } in
     let last = c.remake_stops.ensures.shows n first in
@@ -30,9 +28,7 @@ returns-in-Some g c = λ fit₀ n kept₀ on queue_is.
       all = c.remake_stops.ensures.all n first;
       shows = record {
         kept = last.kept;
-        store_fit = last.store_fit;
-        names_fit = last.names_fit;
         follows = λ _. follows_all ops _ n queue_is last.follows;
       };
-      means = c.remake_stops.ensures.means read.fits ∙ read.means ∙ ap store.model emptied.store_is;
+      means = c.remake_stops.ensures.means ∙ read.means ∙ ap store.model emptied.store_is;
     }

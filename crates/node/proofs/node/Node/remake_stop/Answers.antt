@@ -1,10 +1,12 @@
-use Rattle.std.proofs.Common.{sym, refl, ap, ◌∙◌, subst}
+use Rattle.std.proofs.Common.{◌≡◌, Some, arith, sym, refl, ap, ◌∙◌, subst}
 use Rattle.model.specs.OnBytes.{on_bytes}
 use Rattle.model.specs.Row.{Row}
 use Rattle.model.specs.Store.{Stored}
 use Rattle.law.specs.Node.{requeued}
 use Rattle.model.specs.Row.{oldest}
 use Rattle.ledger.specs.Kept.{Kept}
+use Rattle.std.specs.Option.{option_map}
+use Rattle.rows.specs.Meaning.{row_of}
 use Rattle.queue.specs.Lines.{lined}
 use Rattle.node.specs.Shows.{beside_of}
 use Rattle.node.specs.declared.node.Node.{Node}
@@ -12,35 +14,33 @@ use Rattle.node.proofs.Remaking.{same_added, follows_more}
 use Rattle.node.proofs.Showing.{read_is}
 use Rattle.node.proofs.node.Node.remake_stop.Goals as goal
 
-pub returns-in-Some : goal.returns-in-Some
-returns-in-Some g c = λ below.
+pub returns : goal.returns
+returns g c = λ below.
     let store = g.S.Store in
     let set = g.N.NameSet in
     let computation = g.C.Computation in
     let ops = on_bytes computation.operations in
     let v = c.args.self.now in
     let v' : Node g.row.S.Denot g.row.N.Denot g.row.C.Denot =
-    record { store = c.read_row.new.store; names = c.add_all.new.set; timers = c.set.new.self; panel = c.set-in-Some.new.self; queue = c.requeue.new.queue; watermark = v.watermark; computation = v.computation } in
+    record { store = c.read_row.new.store; names = c.add_all.new.set; timers = c.set.new.self; panel = c.set-2.new.self; queue = c.requeue.new.queue; watermark = v.watermark; computation = v.computation } in
     let i = c.args.stop in
-    let row = c.in-Some.row in
-    let read = c.in-Some.ensures.reads in
+    let row = c.in_ok-row.row in
+    let read = c.read_row.ensures.reads in
+    let got : c.read_row.result ≡ Some row = grind arith in
     record {
       all = λ n shows. refl;
       shows = λ n shows.
-          let row_is = read_is row (n.row i) ((read shows.store_fit).row n shows.kept shows.on below) in
+          let row_is = read_is row (n.row i) (ap (option_map row_of) (sym got) ∙ read.row n shows.kept shows.on below) in
           let names-are = c.names.ensures ∙ ap (λ (r : Row). r.names) row_is in
-          let added = same_added names-are (c.add_all.ensures shows.names_fit) in
+          let added = same_added names-are c.add_all.ensures in
           record {
-            kept = subst (λ (x : Stored). Kept x n) (sym (read shows.store_fit).means) shows.kept;
+            kept = subst (λ (x : Stored). Kept x n) (sym read.means) shows.kept;
             on = shows.on;
-            store_fit = (read shows.store_fit).fits;
-            names_fit = added.fit;
             follows =
                 follows_more ops i (beside_of store set computation v) (beside_of store set computation v') n below (shows.kept.row i below).fits.few_names shows.follows _ _ _ added
                 c.set.ensures (c.due_in.ensures ∙ ap ops.due (c.state.ensures ∙ ap (λ (r : Row). r.state) row_is))
-                c.set-in-Some.ensures (c.oldest.ensures ∙ ap (λ (r : Row). oldest r.pending) row_is)
+                c.set-2.ensures (c.oldest.ensures ∙ ap (λ (r : Row). oldest r.pending) row_is)
                 (λ line low. c.requeue.ensures line low ∙ ap (λ (r : Row). requeued i r.pending (lined v.queue)) row_is) refl;
           };
-      fits = λ fit. (read fit).fits;
-      means = λ fit. (read fit).means;
+      means = read.means;
     }

@@ -8,8 +8,6 @@ returns g c = λ n shows.
     let k = shows.kept in
     record {
       kept = record { count = k.count; row = k.row; watermark = k.watermark; watermark_fits = k.watermark_fits; power = k.power };
-      store_fit = shows.store_fit;
-      names_fit = shows.names_fit;
       follows = λ on.
           let f = shows.follows on in
           record {
