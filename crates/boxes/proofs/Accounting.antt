@@ -5,7 +5,6 @@ use Rattle.journal.specs.Layout.{meaning}
 use Rattle.journal.specs.declared.journal.Journal.{Journal}
 use Rattle.shadow.specs.Layout.{meaning as shadow_meaning}
 use Rattle.shadow.specs.declared.shadow.Shadow.{Shadow}
-use Rattle.cache.specs.declared.cached.Cached.{Cached}
 use Rattle.ledger.specs.Kept.{Blank}
 use Rattle.pair.specs.declared.pair.Stopped.{Stopped}
 use Rattle.pair.specs.declared.pair.Stopped.TheVariants.{NoMemory, Damaged}
@@ -18,8 +17,8 @@ only_memory (Err NoMemory) damage never = refl
 only_memory (Err Damaged) damage never = absurd (never (damage refl))
 
 -- formatted stores are blank
-pub journal_blank : (s : Cached Journal) → JournalReady s → Blank (meaning (medium s.below.card))
-journal_blank s ready = record { rows = ap (λ m. m.rows) ready.formatted.means; off = ap (λ m. m.power.on) ready.formatted.means }
+pub journal_blank : (s : Journal) → JournalReady s → Blank (meaning (medium s.card))
+journal_blank s ready = record { rows = ap (λ m. m.rows) ready.means; off = ap (λ m. m.power.on) ready.means }
 
 pub shadow_blank : (s : Shadow) → ShadowReady s → Blank (shadow_meaning (medium s.card))
-shadow_blank s ready = record { rows = ap (λ m. m.rows) ready.formatted.means; off = ap (λ m. m.power.on) ready.formatted.means }
+shadow_blank s ready = record { rows = ap (λ m. m.rows) ready.means; off = ap (λ m. m.power.on) ready.means }

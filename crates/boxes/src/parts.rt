@@ -25,7 +25,7 @@ pub struct Parts {
 
 // Two formatted cards, node 0's and node 1's, with their stores, and two name sets.
 pub fn new_parts(heap: Global) -> Result<Parts, AllocError>
-    ensures collector { IfOk result (λ p. JournalReady p.collector_store) }
+    ensures collector { IfOk result (λ p. JournalReady p.collector_store.below) }
     ensures spotter { IfOk result (λ p. ShadowReady p.spotter_store) }
 {
     let collector_store = Cached::new(Journal::format(Card::blank(heap, 0, 35)?).unwrap());

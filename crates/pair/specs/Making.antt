@@ -29,10 +29,10 @@ pub record Makes
     (s : S) (t : T) (v : Pair S N C T O D) : Type 0 where
   pub home : AtHome store store' s t
   pub blank
-      : store.fit s → store'.fit t → Blank (store.model s) → Blank (store'.model t)
+      : Blank (store.model s) → Blank (store'.model t)
       → (p : LawPair) × New p × Shows store set computation store' set' computation' v p
   pub kept
-      : store.fit s → store'.fit t → (p : LawPair) → Rests store store' s t p
+      : (p : LawPair) → Rests store store' s t p
       → Shows store set computation store' set' computation' v p
 
 pub record Refuses {S T : Type 0} (store : Stores S) (store' : Stores T) (s : S) (t : T) (a : Answer) : Type 0 where

@@ -7,7 +7,7 @@ use computations::Computation;
 use model::{Answer, Junk, Outcome};
 use names::NameSet;
 use node::Damaged;
-use stores::Store;
+use stores::{Store, Supply};
 
 impl<S: Store, N: NameSet, C: Computation, T: Store, O: NameSet, D: Computation> Pair<
     S,
@@ -39,17 +39,20 @@ impl<S: Store, N: NameSet, C: Computation, T: Store, O: NameSet, D: Computation>
         ensures { Steps S.Store N.NameSet C.Computation T.Store O.NameSet D.Computation self.old self.new (Restart node left tear junk.entry) result }
     {
         match junk {
-            Junk::Fill(fill) => self.wake(node, left, tear, &[fill; 512]),
-            Junk::Page(page) => self.wake(node, left, tear, page),
+            Junk::Fill(fill) => {
+                let junk = &[fill; 512];
+                self.wake(node, Supply { left, tear, junk })
+            }
+            Junk::Page(junk) => self.wake(node, Supply { left, tear, junk }),
         }
     }
 
-    fn wake(&mut self, node: u8, left: u32, tear: u8, junk: &[u8]) -> Result<Outcome, Damaged>
-        ensures { Wakes S.Store N.NameSet C.Computation T.Store O.NameSet D.Computation self.old self.new node left tear junk.now result }
+    fn wake(&mut self, node: u8, supply: Supply<'_>) -> Result<Outcome, Damaged>
+        ensures { Wakes S.Store N.NameSet C.Computation T.Store O.NameSet D.Computation self.old self.new node supply.entry.left supply.entry.tear supply.entry.junk.now result }
     {
         match node {
-            0 => self.collector.restart(left, tear, junk).map(Outcome::Plain),
-            1 => self.spotter.restart(left, tear, junk).map(Outcome::Plain),
+            0 => self.collector.restart(supply).map(Outcome::Plain),
+            1 => self.spotter.restart(supply).map(Outcome::Plain),
             _ => Ok(Outcome::Plain(Answer::OutOfRange)),
         }
     }
