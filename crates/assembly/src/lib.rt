@@ -3,7 +3,6 @@
 
 mod failure;
 mod script;
-mod text;
 
 pub use failure::Failure;
 pub use script::assemble;

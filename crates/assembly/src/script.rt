@@ -4,7 +4,6 @@ ghost use Rattle.assembly.specs.Assembled.{assembled, bytes_of};
 ghost use Rattle.assembly.specs.Answers.{Answers};
 
 use super::failure::Failure;
-use super::text::first_line;
 use frames::write_frame;
 use model::Call;
 use parser::parse_line;
@@ -27,13 +26,11 @@ pub fn assemble<'a>(heap: Global, text: &'a [u8]) -> Result<Vec<u8>, Failure<'a>
     ensures { Answers result (assembled text.now) }
 {
     let mut script = Vec::new(heap);
-    let mut rest = text;
-    let mut number = 0;
-    while !rest.is_empty() {
-        number += 1;
-        let (line, after) = first_line(rest);
-        rest = after;
-        let said = parse_line(line).map_err(|misread| Failure::BadLine { number, misread })?;
+    for (i, line) in text.split(|byte| *byte == b'\n').enumerate() {
+        let said = parse_line(line).map_err(|misread| Failure::BadLine {
+            number: i + 1,
+            misread,
+        })?;
         if let Some(call) = said {
             add_frame(&mut script, call)?;
         }
