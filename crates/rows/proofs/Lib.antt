@@ -1,5 +1,5 @@
 mod EntryLoops
 mod Encoding
-mod Places
+pub mod Places
 pub mod RowBytes
 pub mod WatermarkBytes

@@ -1,6 +1,7 @@
 -- What is read at a place, from what stands there.
-use Rattle.std.proofs.Common.{◌≡◌, ℕ, zero, suc, ◌+◌, ◌-◌, ◌*◌, ◌/◌, ◌%◌, ◌^◌, ◌<◌, ◌≤◌, List, [], ◌∷◌, ◌++◌, length, get_or, drop, replicate, sym, refl, ap, ◌∙◌, add-zero, mod-eq_of_lt, add_comm, mul-zero, mul-suc, arith}
+use Rattle.std.proofs.Common.{◌≡◌, ℕ, zero, suc, ◌+◌, ◌-◌, ◌*◌, ◌/◌, ◌%◌, ◌^◌, ◌<◌, ◌≤◌, List, [], ◌∷◌, ◌++◌, length, get_or, take, drop, replicate, sym, refl, ap, ◌∙◌, add-zero, mod-eq_of_lt, add_comm, mul-zero, mul-suc, arith}
 use native.Mathlib.Nat.{div-div-eq-div-mul, mod-add-div'}
+use Rattle.std.specs.Int.{w32, from_le_bytes}
 use Rattle.std.specs.List.{flat_map}
 use Rattle.std.proofs.lemmas.List.{append_assoc, drop_at, drop-drop, get_or-drop, get_or_append_left, length-replicate}
 use Rattle.model.specs.Bytes.{u16_bytes, u32_bytes, u16_at, u32_at}
@@ -19,6 +20,14 @@ number_of_u32_bytes x h =
     ∙ digits4 x (x / 256) (x / 65536) (x / 16777216) (x % 256) (x / 256 % 256) (x / 65536 % 256) (mod-add-div' x 256)
     (ap (λ q. x / 256 % 256 + q * 256) (sym (div-div-eq-div-mul x 256 256)) ∙ mod-add-div' (x / 256) 256)
     (ap (λ q. x / 65536 % 256 + q * 256) (sym (div-div-eq-div-mul x 65536 256)) ∙ mod-add-div' (x / 65536) 256)
+
+-- a number of four bytes, read from the first four of more
+pub u32_first : (bs : List ℕ) → from_le_bytes w32 (take 4 bs) ≡ u32_at bs 0
+u32_first [] = refl
+u32_first (a ∷ []) = omega arith
+u32_first (a ∷ b ∷ []) = omega arith
+u32_first (a ∷ b ∷ c ∷ []) = omega arith
+u32_first (a ∷ b ∷ c ∷ d ∷ bs) = omega arith
 
 -- a byte behind a place
 at_drop : (bs : List ℕ) (at k : ℕ) → get_or bs (at + k) 0 ≡ get_or (drop at bs) k 0

@@ -6,7 +6,7 @@ ghost use Rattle.bounded.specs.Lists.{listed};
 ghost use Rattle.rows.specs.Layout.{pending_bytes, name_bytes, pending_size, name_size, PendingFits, NameFits};
 ghost use Rattle.rows.specs.Reading.{production_in, name_in};
 
-use crate::bytes::{number2_at, number4_at, put};
+use crate::bytes::{bytes_at, put};
 use bounded::Bounded;
 use model::{Name, Production};
 
@@ -64,9 +64,9 @@ impl Entry for Production {
 
     fn read_at(bytes: &[u8], at: usize) -> Production {
         Production {
-            serial: number4_at(bytes, at),
-            time: number4_at(bytes, at + 4),
-            amount: number2_at(bytes, at + 8),
+            serial: u32::from_le_bytes(bytes_at(bytes, at)),
+            time: u32::from_le_bytes(bytes_at(bytes, at + 4)),
+            amount: u16::from_le_bytes(bytes_at(bytes, at + 8)),
         }
     }
 }
@@ -93,9 +93,9 @@ impl Entry for Name {
 
     fn read_at(bytes: &[u8], at: usize) -> Name {
         Name {
-            sender: number2_at(bytes, at),
-            serial: number4_at(bytes, at + 2),
-            time: number4_at(bytes, at + 6),
+            sender: u16::from_le_bytes(bytes_at(bytes, at)),
+            serial: u32::from_le_bytes(bytes_at(bytes, at + 2)),
+            time: u32::from_le_bytes(bytes_at(bytes, at + 6)),
         }
     }
 }

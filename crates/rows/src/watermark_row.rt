@@ -1,14 +1,23 @@
 // The row of the watermark, as a type and as its 512 bytes.
 ghost use Rattle.std.specs.Prelude.{◌≡◌, ℕ, ◌^◌, ◌<◌, replicate, IfSome, Some};
 ghost use Rattle.std.specs.Option.{option_map};
+ghost use Rattle.model.specs.Bytes.{u32_bytes};
 ghost use Rattle.model.specs.Limits.{page_bytes};
 ghost use Rattle.rows.specs.Layout.{encoded_watermark};
 
-use crate::bytes::{bytes4_of, number4_at, put};
+use crate::bytes::{bytes_at, put};
 
 #[derive(Clone, Copy, PartialEq, Eq, Debug)]
 pub struct WatermarkRow {
     pub watermark: u32,
+}
+
+// The bytes of a watermark. An argument is known to fit its type; a field behind a reference is not.
+fn bytes_of(watermark: u32) -> [u8; 4]
+    ensures fits { watermark < 2 ^ 32 }
+    ensures bytes { result ≡ u32_bytes watermark }
+{
+    watermark.to_le_bytes()
 }
 
 impl WatermarkRow {
@@ -26,7 +35,7 @@ impl WatermarkRow {
         ensures once { (w : ℕ) → w < 2 ^ 32 → encoded_watermark w ≡ result → w ≡ self.now.watermark }
     {
         let mut out = [0; 512];
-        put(&mut out, 0, &bytes4_of(self.watermark));
+        put(&mut out, 0, &bytes_of(self.watermark));
         out
     }
 
@@ -36,12 +45,8 @@ impl WatermarkRow {
         ensures decodes { (w : ℕ) → w < 2 ^ 32 → encoded_watermark w ≡ bytes.now → option_map (λ row. row.watermark) result ≡ Some w }
     {
         let row = WatermarkRow {
-            watermark: number4_at(bytes, 0),
+            watermark: u32::from_le_bytes(bytes_at(bytes, 0)),
         };
-        if row.encode() == *bytes {
-            Some(row)
-        } else {
-            None
-        }
+        (row.encode() == *bytes).then_some(row)
     }
 }

@@ -9,7 +9,7 @@ ghost use Rattle.rows.specs.Meaning.{row_of};
 ghost use Rattle.rows.specs.Reading.{row_in, LaidOut};
 
 use super::StopRow;
-use crate::bytes::{bytes4_of, number4_at, put};
+use crate::bytes::{bytes_at, put};
 use crate::entries::{NAMES_AT, PENDING_AT, STATE_AT, entries_in, put_entries};
 
 // What stands before the state: the next serial and how many entries there are.
@@ -17,7 +17,7 @@ fn head(next: u32, pending: u8, names: u8) -> [u8; 8]
     ensures fits { next < 2 ^ 32 }
     ensures bytes { result ≡ u32_bytes next ++ pending ∷ names ∷ 0 ∷ 0 ∷ [] }
 {
-    let [n0, n1, n2, n3] = bytes4_of(next);
+    let [n0, n1, n2, n3] = next.to_le_bytes();
     [n0, n1, n2, n3, pending, names, 0, 0]
 }
 
@@ -46,11 +46,9 @@ impl StopRow {
     fn read(bytes: &[u8; 512]) -> StopRow
         ensures { row_of result ≡ row_in bytes.now }
     {
-        let mut state = [0; 32];
-        state.copy_from_slice(&bytes[8..40]);
         StopRow {
-            next: number4_at(bytes, 0),
-            state,
+            next: u32::from_le_bytes(bytes_at(bytes, 0)),
+            state: bytes_at(bytes, STATE_AT),
             pending: entries_in(bytes, PENDING_AT, bytes[4]),
             names: entries_in(bytes, NAMES_AT, bytes[5]),
         }
@@ -62,11 +60,7 @@ impl StopRow {
         ensures decodes { (row : Row) → RowFits row → encoded row ≡ bytes.now → option_map row_of result ≡ Some row }
     {
         let row = StopRow::read(bytes);
-        if row.encode() == *bytes {
-            Some(row)
-        } else {
-            None
-        }
+        (row.encode() == *bytes).then_some(row)
     }
 
     // How many names stay for a floor in the row that has these bytes; none if no row has.

@@ -10,9 +10,9 @@ returns c =
     let w = c.args.self.now.watermark in
     let out = c.put.new.out in
     let bytes : out ≡ encoded_watermark w =
-    watermark_by w page_bytes _ c.bytes4_of.result out refl refl c.bytes4_of.ensures.bytes c.put.ensures.after in
+    watermark_by w page_bytes _ c.bytes_of.result out refl refl c.bytes_of.ensures.bytes c.put.ensures.after in
     record {
       bytes = bytes;
-      fits = c.bytes4_of.ensures.fits;
-      once = λ other f e. sym (watermark_back other f) ∙ ap (λ l. u32_at l 0) (e ∙ bytes) ∙ watermark_back w c.bytes4_of.ensures.fits;
+      fits = c.bytes_of.ensures.fits;
+      once = λ other f e. sym (watermark_back other f) ∙ ap (λ l. u32_at l 0) (e ∙ bytes) ∙ watermark_back w c.bytes_of.ensures.fits;
     }
