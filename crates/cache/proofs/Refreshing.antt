@@ -1,5 +1,5 @@
 -- A copy that is refreshed after a commit is done agrees with the store below.
-use Rattle.std.proofs.Common.{◌≡◌, ℕ, ◌%◌, ◌<◌, ◌≤◌, Bool, true, false, cond, leb, ◌≢◌, List, [], length, get_or, set, Some, sym, refl, ap, ◌∙◌, subst, ⊎_elim, arith}
+use Rattle.std.proofs.Common.{◌≡◌, ℕ, ◌%◌, ◌<◌, ◌≤◌, Bool, true, false, cond, leb, ◌≢◌, List, [], length, get_or, set, Some, sym, refl, ap, ◌∙◌, ⊎_elim, arith}
 use Rattle.std.proofs.lemmas.List.{get_or-set_same, get_or-set_other, length-set}
 use Rattle.std.proofs.lemmas.Bool.{cases_eq, cond-true, and_from, and_parts, or_left, ltb-true, leb-true, le-leb, eq-eqb, eqb-true}
 use Rattle.model.specs.Power.{renewed}
@@ -63,10 +63,6 @@ refreshed cost turn owed point s t places r page four within done is agrees =
     let enough : cost ≤ s.power.left = leb-true cost s.power.left all.2 in
     let new : renewed turn s.power ≡ true = or_left _ _ (le-leb turn s.power.left (omega arith)) in
     kept_agrees places r page four s t agrees (ap (λ (x : Stored). x.power.on) after ∙ all.2) l (ap (λ (x : Stored). x.rows) after ∙ cond-true _ _ _ new)
-
--- of equal copies the same holds
-pub becomes : (t : Stored) {places now : List Entry} → Agrees t places → now ≡ places → Agrees t now
-becomes t agrees e = subst (Agrees t) (sym e) agrees
 
 pub held : {places now : List Entry} (r : ℕ) → now ≡ places → holds places r ≡ true → holds now r ≡ true
 held r e h = ap (λ p. holds p r) e ∙ h
