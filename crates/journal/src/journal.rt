@@ -40,6 +40,7 @@ fn write_row(card: &mut Card, row: u8, page: &Page) -> Answer
     ensures node_stays { (medium card.new).node ≡ (medium card.old).node }
 {
     let marked = mark_page(row.saturating_add(1));
+    // What is handed on is an answer, done or not: `?` would make a Result of it and an answer of that again.
     match card.write_both(row, 1, page, 0, &marked) {
         Answer::Done => card.write_both(row, home_page(row), page, 0, &mark_page(0)),
         answer => answer,

@@ -39,12 +39,6 @@ undone NotOldest f = refl
 pub ranged_stop : (r : Record) → in_range r ≡ true → r.stop < stops
 ranged_stop r e = ltb-true r.stop stops (and_parts (ltb r.stop stops) (leb r.name.time last_time && (ltb 0 r.amount && leb r.amount most_amount)) e).0
 
--- what is judged first
-pub judged_done : (ranged on : Bool) → Done ≡ judged_first ranged on → (ranged ≡ true) × (on ≡ true)
-judged_done true true e = (refl, refl)
-judged_done true false e = absurd (let z : ◌≡◌ {A = ℕ} 0 1 = cc in omega arith)
-judged_done false on e = absurd (let z : ◌≡◌ {A = ℕ} 0 1 = cc in omega arith)
-
 module _ (kit : Kit) (free : Free) (r : Record) (n : LawNode) where
   -- a record that is refused changes nothing
   pub hand_in_refused : (a : Answer) → a ≡ considered kit.computation n.power.on n.w r (n.row r.stop) → (a ≡ Done → ⊥) → hand_in kit free r n ≡ (a, n)

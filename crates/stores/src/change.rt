@@ -12,6 +12,7 @@ pub fn change_byte<S: Store>(store: &mut S, row: usize, at: usize, byte: u8) -> 
     if at >= page.len() {
         return Answer::OutOfRange;
     }
+    // What is handed on is an answer, done or not: `?` would make a Result of it and an answer of that again.
     match store.read(row, &mut page) {
         Answer::Done => {
             page[at] = byte;

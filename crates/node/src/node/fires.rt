@@ -45,6 +45,7 @@ impl<S: Store, N: NameSet, C: Computation> Node<S, N, C> {
         ensures { AnswersIf S.Store N.NameSet C.Computation self.old self.new (λ n. (n.power.on ≡ true) × (stop < stops) × Reached (on_bytes C.operations) n.w (n.row stop)) result (λ kit free n. fire_as kit free stop (room_for_one (n.row stop)) n) }
     {
         let mut row = self.row(stop)?;
+        // A refusal turns from the step's error into the node's answer; only a damaged row is an error here.
         match fire_row::<C>(&mut row, self.watermark) {
             Ok(floor) => Ok(self.commit(stop, &row, Some(floor), None)),
             Err(refusal) => Ok(refusal),

@@ -17,6 +17,7 @@ impl<S: Store, N: NameSet, C: Computation> Node<S, N, C> {
     pub fn hand_in(&mut self, given: &Record) -> Result<Answer, Damaged>
         ensures { Answers S.Store N.NameSet C.Computation self.old self.new result (λ kit free n. hand_in kit free given.now n) }
     {
+        // A refusal is an answer like another: only a damaged row is an error, which `?` hands on.
         match self.judge(given) {
             Answer::Done => self.take(given),
             refusal => Ok(refusal),
@@ -46,6 +47,7 @@ impl<S: Store, N: NameSet, C: Computation> Node<S, N, C> {
             w: self.watermark,
             seen,
         };
+        // So here: a refusal turns from the step's error into the node's answer.
         match take_record::<C>(&mut row, moment, given) {
             Ok(floor) => {
                 let fell = fallen(before, row.names().len(), floor);

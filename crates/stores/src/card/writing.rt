@@ -65,6 +65,7 @@ impl Card {
         ensures card { medium self.new ≡ written_both (medium self.old) first bytes.now second more.now }
         ensures node_stays { (medium self.new).node ≡ (medium self.old).node }
     {
+        // What is handed on is an answer, done or not: `?` would make a Result of it and an answer of that again.
         match self.write(row, first, bytes) {
             Answer::Done => self.write(row, second, more),
             answer => answer,

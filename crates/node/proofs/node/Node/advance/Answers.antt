@@ -1,14 +1,9 @@
-use Rattle.std.proofs.Common.{◌≡◌, ◌<◌, ◌≤◌, true, sym, refl, ◌∙◌, arith, rules}
+use Rattle.std.proofs.Common.{◌≡◌, ◌<◌, ◌≤◌, true, sym, ◌∙◌, arith, rules}
 use Rattle.std.proofs.lemmas.Bool.{cond-true, cond-false, lt-leb, le-leb}
 use Rattle.model.specs.Limits.{last_time}
 use Rattle.model.specs.OnBytes.{on_bytes}
 use Rattle.node.proofs.Showing.{told_by, is_on, advanced_done, advanced_cut}
 use Rattle.node.proofs.node.Node.advance.Goals as goal
-
-pub returns-then-time-gt-LAST_TIME : goal.returns-then-time-gt-LAST_TIME
-returns-then-time-gt-LAST_TIME g c = λ n shows.
-    let over : last_time < c.args.time = search rules in
-    told_by (cond-false _ _ _ (lt-leb c.args.time last_time over)) (record { answer = refl; shows = shows })
 
 pub returns-then-eq : goal.returns-then-eq
 returns-then-eq g c = λ n shows.

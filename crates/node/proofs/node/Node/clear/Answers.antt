@@ -1,5 +1,5 @@
-use Rattle.std.proofs.Common.{◌≡◌, ◌<◌, ◌≤◌, true, Ok, sym, refl, ap, ◌∙◌, append-nil, rules}
-use Rattle.std.proofs.lemmas.Bool.{cond-true, cond-false, lt-ltb, le-ltb}
+use Rattle.std.proofs.Common.{◌≡◌, ◌<◌, true, Ok, sym, refl, ap, ◌∙◌, append-nil, rules}
+use Rattle.std.proofs.lemmas.Bool.{cond-true, lt-ltb}
 use Rattle.model.specs.Limits.{stops}
 use Rattle.model.specs.Row.{Row}
 use Rattle.law.specs.Node.{commit_row}
@@ -8,11 +8,6 @@ use Rattle.law.specs.Rows.{is_oldest}
 use Rattle.node.specs.Shows.{kit_of, free_of}
 use Rattle.node.proofs.Showing.{told_by, rewrapped, is_on}
 use Rattle.node.proofs.node.Node.clear.Goals as goal
-
-pub returns-then-stop-ge32 : goal.returns-then-stop-ge32
-returns-then-stop-ge32 g c = λ n shows.
-    let over : stops ≤ c.args.stop = search rules in
-    told_by (cond-false _ _ _ (le-ltb c.args.stop stops over)) (record { answer = refl; shows = shows })
 
 pub returns : goal.returns
 returns g c = λ n shows.

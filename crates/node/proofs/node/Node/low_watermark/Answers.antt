@@ -1,8 +1,8 @@
-use Rattle.std.proofs.Common.{◌≡◌, ℕ, ◌<◌, Ok, sym, ap, ◌∙◌, arith}
+use Rattle.std.proofs.Common.{ℕ, ◌<◌, sym, ap, ◌∙◌, arith}
 use Rattle.model.specs.Limits.{stops}
 use Rattle.model.specs.OnBytes.{on_bytes}
 use Rattle.model.specs.Row.{Row}
-use Rattle.law.specs.Stops.{low_below, least_due, least_time}
+use Rattle.law.specs.Stops.{least_due, least_time}
 use Rattle.node.proofs.Judging.{low_more, low_none}
 use Rattle.node.proofs.Showing.{stays_then, stays_here}
 use Rattle.node.proofs.node.Node.low_watermark.Goals as goal
@@ -28,24 +28,3 @@ loop-stop-preserved g c =
           ∙ ap (λ (low : ℕ). least_due (ops.due (n.row i).state) (least_time (n.row i).pending low)) (inv.1 n shows on)
           ∙ sym (low_more ops n.row n.w i),
     )
-
-pub returns-in_err-row : goal.returns-in_err-row
-returns-in_err-row g c =
-    let i = c.loop-stop.stop in
-    let inv = c.loop-stop.invariant in
-    let read = c.in_err-row.ensures in
-    let below : i < stops = omega arith in
-    record {
-      stays = stays_then g.S.Store g.N.NameSet g.C.Computation g.met.S.Store.turn_within inv.0 read.stays;
-      value = λ n shows on. absurd (read.row n (inv.0.shows n shows) on below);
-    }
-
-pub returns : goal.returns
-returns g c =
-    let inv = c.loop-stop.invariant in
-    let end : c.loop-stop.stop ≡ stops = omega arith in
-    record {
-      stays = inv.0;
-      value = λ n shows on.
-          ap (λ (x : ℕ). Ok x) (inv.1 n shows on ∙ ap (λ (i : ℕ). low_below (on_bytes g.C.Computation.operations) n.row n.w i) end);
-    }

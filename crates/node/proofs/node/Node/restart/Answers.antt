@@ -5,7 +5,7 @@ use Rattle.model.specs.declared.answer.Answer.{Answer}
 use Rattle.model.specs.declared.answer.Answer.TheVariants.{Done}
 use Rattle.node.specs.Shows.{Shows}
 use Rattle.node.proofs.Showing.{told_by}
-use Rattle.node.proofs.Waking.{woken, woke_done, woken_not}
+use Rattle.node.proofs.Waking.{woken, woke_done}
 use Rattle.node.proofs.node.Node.restart.Goals as goal
 
 pub returns-in_ok-remake : goal.returns-in_ok-remake
@@ -35,8 +35,3 @@ returns-in_err-remake g c = λ n shows.
     let t = store.model c.restart-answer.new.self in
     let remade = c.in_err-remake.ensures (woken c.args.supply.left c.args.supply.tear t.power.owed n) woke.kept woke.lasts refl in
     absurd (both_ways false refl remade.all)
-
-pub returns-else-eq : goal.returns-else-eq
-returns-else-eq g c = λ n shows.
-    woken_not g.S.Store g.N.NameSet g.C.Computation c.args.self.now c.restart-answer.new.self c.args.supply.left c.args.supply.tear c.args.supply.junk.now n shows c.restart-answer.result
-    c.restart-answer.ensures.restarts (search rules)
