@@ -1,5 +1,5 @@
 -- What a reader is, and what it hands out. Assumes nothing.
-use Rattle.std.specs.Prelude.{◌≡◌, ℕ, ◌+◌, ◌≤◌, true, List, length, take, Some, None, Ok, Err, Option, Result}
+use Rattle.std.specs.Prelude.{◌≡◌, ℕ, ◌+◌, ◌<◌, ◌≤◌, true, List, length, take, OnSome, Some, None, Ok, Err, Option, Result}
 use Rattle.model.specs.declared.answer.Fault.{Fault}
 use Rattle.model.specs.declared.call.Call.{Call}
 use Rattle.frames.specs.declared.frame.Frame.{Frame}
@@ -10,7 +10,7 @@ use Rattle.frames.specs.declared.reader.Placed.{Placed}
 use Rattle.frames.specs.declared.reader.Reader.{Reader}
 use Rattle.frames.specs.Frames.{frame_kind, frame_body, framed}
 use Rattle.frames.specs.Kinds.{fits}
-use Rattle.frames.specs.Reading.{Standing}
+use Rattle.frames.specs.Reading.{Standing, call_at, next_place}
 
 -- the script that a reader has, and the place where it stands
 abbrev pub script_of : Reader → List ℕ
@@ -60,3 +60,11 @@ abbrev pub EventOffset : ℕ → Option (Result Event Misfit) → Type 0
 EventOffset i None = Unit {0}
 EventOffset i (Some (Ok e)) = e.offset ≡ i
 EventOffset i (Some (Err m)) = m.offset ≡ i
+
+-- one call of a reader: what stood at its place, and where it stands after that
+pub record Reads (s : Reader) (r : Option (Result Event Misfit)) (t : Reader) : Type 0 where
+  pub call : handed_call r ≡ call_at (script_of s) (place_of s)
+  pub offset : EventOffset (place_of s) r
+  pub script : script_of t ≡ script_of s
+  pub place : place_of t ≡ next_place (script_of s) (place_of s)
+  pub forward : OnSome r ((place_of s < place_of t) × (place_of t ≤ length (script_of s)))

@@ -19,6 +19,7 @@ pub enum Frame<'a> {
     MarkDone(&'a [u8]),
 }
 
+// The three matches say the same of each case: the cases of `Frame`, which hold the body, are a required form.
 impl<'a> Frame<'a> {
     pub fn new(kind: Kind, body: &'a [u8]) -> Frame<'a>
         ensures kind { frame_kind result ≡ kind }

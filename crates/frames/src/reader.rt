@@ -1,6 +1,7 @@
 // Hands out the frames of a script one after another.
-ghost use Rattle.std.specs.Prelude.{◌≡◌, ◌<◌, ◌≤◌, length, drop, IfOk, OnSome, Some};
-ghost use Rattle.frames.specs.Handed.{Begun, EventOffset, IfFramed, Offset, Whole, handed, handed_call, place_of, script_of, shown};
+ghost use Rattle.std.specs.Prelude.{◌≡◌, ◌-◌, ◌<◌, ◌≤◌, length, drop, IfOk, OnSome, Some};
+ghost use Rattle.std.specs.Iterator.{at_most};
+ghost use Rattle.frames.specs.Handed.{Begun, EventOffset, IfFramed, Offset, Reads, Whole, handed, handed_call, place_of, script_of, shown};
 ghost use Rattle.frames.specs.Reading.{call_at, first_frame, next_place, stands_at};
 
 use super::frame::Frame;
@@ -77,6 +78,19 @@ impl<'a> Reader<'a> {
             let call = frame.call().map(|call| Event { offset, call });
             call.map_err(|fault| Misfit { fault, offset })
         }))
+    }
+}
+
+// The calls of a script with their offsets, up to its end or its first fault.
+impl<'a> Iterator for Reader<'a> {
+    type Item = Result<Event<'a>, Misfit>;
+
+    ghost next_gives = { Reads };
+
+    ghost remaining = { λ s. at_most (length (script_of s) - place_of s) };
+
+    fn next(&mut self) -> Option<Result<Event<'a>, Misfit>> {
+        self.next_call()
     }
 }
 

@@ -61,7 +61,8 @@ fn put(frame: &[u8], buffer: &mut [u8]) -> Result<usize, Fault>
 }
 
 // Writes a call as a frame at the front of a buffer, and says how many bytes it took. A restart that lends a whole page
-// of junk has no frame: its body would have a length that is wrong for the kind.
+// of junk has no frame: its body would have a length that is wrong for the kind. The buffer is the caller's, since
+// `BufferTooSmall` is a fault of the format and nothing here allocates.
 pub fn write_frame(call: Call<'_>, buffer: &mut [u8]) -> Result<usize, Fault>
     ensures answer { result ≡ write_answer (frame_of call.entry) (length buffer.old) }
     ensures after { buffer.new ≡ buffer_after (frame_of call.entry) buffer.old }

@@ -12,10 +12,9 @@ pub record SoFar (script : List ℕ) (place number : ℕ) (text : List ℕ) : Ty
   pub more : ℕ
   pub enough : length script ≤ place + more
   pub whole : text ++ listed_from more script place (number + 1) ≡ listed script
-  pub few : number ≤ place
 
-pub start : (script : List ℕ) (place : ℕ) (text : List ℕ) → place ≡ 0 → text ≡ [] → SoFar script place 0 text
-start script place text e none = record { more = length script; enough = omega arith; whole = cc; few = omega arith }
+pub start : (script : List ℕ) (place number : ℕ) (text : List ℕ) → place ≡ 0 → number ≡ 0 → text ≡ [] → SoFar script place number text
+start script place number text e first none = record { more = length script; enough = omega arith; whole = cc }
 
 listed_call : (more : ℕ) (s : List ℕ) (i n : ℕ) (call : Call) → call_at s i ≡ Some (Ok call)
     → listed_from (suc more) s i n ≡ entry_of n i call ++ listed_from more s (next_place s i) (n + 1)
@@ -61,7 +60,6 @@ module _ (s : List ℕ) (i n : ℕ) (text : List ℕ) where
               let a = listed_call m s i (n + 1) call e in
               let b : line ++ listed_from m s j (n + 1 + 1) ≡ listed_from (suc m) s i (n + 1) = cc in
               ap (λ t. t ++ listed_from m s j (n + 1 + 1)) is ∙ append_assoc text line (listed_from m s j (n + 1 + 1)) ∙ ap (λ t. text ++ t) b ∙ whole;
-          few = omega (arith, h.few);
         }
 
     pub one_fault : SoFar s i n text → (fault : Fault) → call_at s i ≡ Some (Err fault) → j ≡ next_place s i → line ≡ fault_of (fault_number fault) i → SoFar s j (n + 1) after
@@ -75,5 +73,4 @@ module _ (s : List ℕ) (i n : ℕ) (text : List ℕ) where
           whole =
               let a = listed_fault m s i (n + 1) fault e in
               none_after after s j (n + 1 + 1) ∙ is ∙ ap (λ t. text ++ t) (shown ∙ sym a) ∙ whole;
-          few = omega (arith, h.few);
         }

@@ -25,12 +25,9 @@ pub fn list_script(heap: Global, script: &[u8]) -> Result<String, AllocError>
     ensures { IfOk result (λ s. string_bytes s ≡ listed script.now) }
 {
     let mut text = String::new(heap);
-    let mut reader = Reader::new(script);
-    let mut number = 0;
-    while let Some(next) = reader.next_call() {
-        number += 1;
+    for (i, next) in Reader::new(script).enumerate() {
         let line = match next {
-            Ok(event) => entry(heap, number, event.offset, event.call)?,
+            Ok(event) => entry(heap, i + 1, event.offset, event.call)?,
             Err(misfit) => fault_line(heap, u8::from(misfit.fault), misfit.offset)?,
         };
         text.push_str(line.as_str())?;

@@ -1,5 +1,5 @@
 // The words of a line, one after another.
-ghost use Rattle.std.specs.Prelude.{◌≡◌, ◌≤◌, length};
+ghost use Rattle.std.specs.Prelude.{◌≡◌, ◌≤◌, ℕ, Bool, length};
 ghost use Rattle.std.specs.List.{prefix_len};
 ghost use Rattle.parser.specs.Words.{blank, rest_of, solid, word_of};
 
@@ -33,19 +33,13 @@ fn is_solid(byte: u8) -> bool
     byte > 32 && byte != b'#'
 }
 
-fn blanks(text: &[u8]) -> usize
-    ensures value { result ≡ prefix_len blank text.now }
+// How many bytes at the front pass a test.
+fn front<F: Fn(u8) -> bool>(text: &[u8], passes: F) -> usize
+    requires { F.IsAlwaysCallable passes }
+    ensures value { (p : ℕ → Bool) → ((b : ℕ) (r : Bool) → F.post passes b r → r ≡ p b) → result ≡ prefix_len p text.now }
     ensures within { result ≤ length text.now }
 {
-    let other = text.iter().position(|byte| !is_blank(*byte));
-    other.unwrap_or(text.len())
-}
-
-fn solids(text: &[u8]) -> usize
-    ensures value { result ≡ prefix_len solid text.now }
-    ensures within { result ≤ length text.now }
-{
-    let other = text.iter().position(|byte| !is_solid(*byte));
+    let other = text.iter().position(|byte| !passes(*byte));
     other.unwrap_or(text.len())
 }
 
@@ -54,6 +48,6 @@ pub fn first_word(text: &[u8]) -> (&[u8], &[u8])
     ensures word { result.0.now ≡ word_of text.now }
     ensures rest { result.1.now ≡ rest_of text.now }
 {
-    let (_, text) = text.split_at(blanks(text));
-    text.split_at(solids(text))
+    let (_, text) = text.split_at(front(text, is_blank));
+    text.split_at(front(text, is_solid))
 }

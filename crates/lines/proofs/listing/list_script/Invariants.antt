@@ -1,10 +1,11 @@
-use Rattle.std.proofs.Common.{◌≡◌, ◌-◌, length, string_bytes}
+use Rattle.std.proofs.Common.{◌≡◌, string_bytes}
+use Rattle.std.specs.Iterator.Adapters.{enumerate_count, enumerate_source}
 use Rattle.frames.specs.Handed.{place_of, script_of}
 use Rattle.lines.proofs.Loop.{SoFar}
 use Rattle.lines.proofs.listing.list_script.Given as goal
 
-abbrev pub invariant-loop-next : goal.invariant-loop-next
-invariant-loop-next l = (script_of l.reader ≡ l.script) × SoFar l.script (place_of l.reader) l.number (string_bytes l.text)
-
-abbrev pub decreases-loop-next : goal.decreases-loop-next
-decreases-loop-next l = length l.script - place_of l.reader
+abbrev pub invariant-loop-i : goal.invariant-loop-i
+invariant-loop-i l =
+    (goal.iterator-loop-i).can_next l.i-iterator × (goal.iterator-loop-i).is_finite l.i-iterator
+    × (script_of (enumerate_source l.i-iterator) ≡ l.script)
+    × SoFar l.script (place_of (enumerate_source l.i-iterator)) (enumerate_count l.i-iterator) (string_bytes l.text)
