@@ -1,7 +1,6 @@
--- Least times and sums, one production after another. Assumes nothing.
-use Rattle.std.proofs.Common.{◌≡◌, ℕ, ◌+◌, ◌<◌, min, List, [], ◌∷◌, ◌++◌, map, length, get_or, take, sym, refl, ap, ◌∙◌, add-zero, add_assoc, zero-add, arith}
-use Rattle.std.proofs.lemmas.List.{take_more}
-use Rattle.std.specs.List.{fold}
+-- Least times and sums, in the order in which a fold meets them. Assumes nothing.
+use Rattle.std.proofs.Common.{◌≡◌, ℕ, ◌+◌, min, List, [], ◌∷◌, sym, refl, ap, ◌∙◌, add-zero, add_assoc, zero-add, arith}
+use Rattle.std.specs.List.{fold, sum}
 use Rattle.model.specs.declared.record.Production.{Production}
 use Rattle.law.specs.Lists.{total}
 use Rattle.law.specs.Stops.{least_time}
@@ -18,14 +17,10 @@ pub least_fold : (ps : List Production) (b : ℕ) → fold (λ a p. min p.time a
 least_fold [] b = refl
 least_fold (p ∷ ps) b = least_fold ps (min p.time b) ∙ least_min ps p.time b
 
-amounts : List Production → ℕ
-amounts ps = total (map (λ (p : Production). p.amount) ps)
+-- a sum, in the order in which an iterator adds the numbers
+total_from : (ns : List ℕ) (a : ℕ) → fold (λ b n. b + n) a ns ≡ a + total ns
+total_from [] a = sym (add-zero a)
+total_from (n ∷ ns) a = total_from ns (a + n) ∙ add_assoc a n (total ns)
 
-sum_snoc : (ps : List Production) (p : Production) → amounts (ps ++ p ∷ []) ≡ amounts ps + p.amount
-unfolding amounts
-sum_snoc [] p = add-zero p.amount ∙ sym (zero-add p.amount)
-sum_snoc (x ∷ ps) p = ap (λ (m : ℕ). x.amount + m) (sum_snoc ps p) ∙ sym (add_assoc x.amount (amounts ps) p.amount)
-
-pub sum_more : (ps : List Production) (i : ℕ) (d : Production) → i < length ps → total (map (λ (p : Production). p.amount) (take (i + 1) ps)) ≡ total (map (λ (p : Production). p.amount) (take i ps)) + (get_or ps i d).amount
-unfolding amounts
-sum_more ps i d h = ap amounts (take_more ps i d h) ∙ sum_snoc (take i ps) (get_or ps i d)
+pub total_sum : (ns : List ℕ) → sum ns ≡ total ns
+total_sum ns = total_from ns 0 ∙ zero-add (total ns)

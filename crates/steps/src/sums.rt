@@ -1,5 +1,5 @@
 // What a row holds back: the least of its times, and how much is pending.
-ghost use Rattle.std.specs.Prelude.{◌≡◌, ◌≤◌, map, length, take};
+ghost use Rattle.std.specs.Prelude.{◌≡◌, map, take};
 ghost use Rattle.model.specs.OnBytes.{on_bytes};
 ghost use Rattle.law.specs.Lists.{total};
 ghost use Rattle.law.specs.Stops.{least_time, least_due};
@@ -29,18 +29,9 @@ fn least_time(pending: &[Production], low: u32) -> u32
 pub fn pending_amount(row: &StopRow) -> u32
     ensures { result ≡ total (map (λ p. p.amount) (take 4 (row_of row.now).pending)) }
 {
-    let pending = row.pending();
-    sum_of(&pending[..pending.len().min(4)])
-}
-
-// A loop, as what an iterator yields is not known to fit its type, and the sum has to.
-fn sum_of(pending: &[Production]) -> u32
-    requires { length pending.now ≤ 4 }
-    ensures { result ≡ total (map (λ p. p.amount) pending.now) }
-{
-    let mut sum = 0;
-    for production in pending {
-        sum += u32::from(production.amount);
-    }
-    sum
+    row.pending()
+        .iter()
+        .take(4)
+        .map(|production| u32::from(production.amount))
+        .sum()
 }
