@@ -1,10 +1,11 @@
 -- The order of slots: by the value, none behind all, then by the stop. Assumes nothing.
-use Rattle.std.specs.Prelude.{◌≡◌, Some, None, Option, refl}
+use Rattle.std.specs.Prelude.{◌≡◌, Bool, ◌&&◌, nat_eq, Some, None, Option, refl}
 use Rattle.std.specs.declared.cmp.Ordering.TheVariants.{Less, Equal, Greater}
 use Rattle.std.specs.declared.cmp.Ordering.{Ordering}
-use Rattle.std.proofs.Common.{true≢false, ap}
-use Rattle.std.specs.Cmp.{IsTotalOrder, nat_cmp_total, on_total, then_total, back_total}
-use Rattle.std.specs.Ordering.{is_lt, is_gt, ordering_reverse, nat_cmp, on, flip_args, then_cmp}
+use Rattle.std.proofs.Common.{true≢false, ap, sym, ◌∙◌}
+use Rattle.std.specs.Option.{option_eq}
+use Rattle.std.specs.Cmp.{IsTotalOrder, nat_cmp_total, on_total, then_total, back_total, ties, unsigned_po}
+use Rattle.std.specs.Ordering.{is_eq, is_lt, is_gt, ordering_reverse, ordering_then, nat_cmp, on, flip_args, then_cmp}
 use Rattle.agenda.specs.declared.offer.Offer.{Offer}
 use Rattle.agenda.specs.declared.slot.Slot.{Slot}
 
@@ -46,6 +47,24 @@ module _ {V : Type 0} {R : V → V → Ordering} (o : IsTotalOrder R) where
   -- the order of slots is total if that of the values is
   pub slot_total : IsTotalOrder (slot_order R)
   slot_total = then_total (on_total (λ (x : Slot V). x.value) latest) (on_total (λ (x : Slot V). x.stop) nat_cmp_total)
+
+-- slots with equal values and the same stop are those that the order doesn't tell apart
+then_same : (r s : Ordering) → is_eq (ordering_then r s) ≡ (is_eq r && is_eq s)
+then_same Less s = refl
+then_same Equal s = refl
+then_same Greater s = refl
+
+module _ {V : Type 0} (E : V → V → Bool) (R : V → V → Ordering) (same : (x y : V) → E x y ≡ is_eq (R x y)) where
+  late_same : (p q : Option V) → option_eq E p q ≡ is_eq (late R p q)
+  late_same None None = refl
+  late_same None (Some y) = refl
+  late_same (Some x) None = refl
+  late_same (Some x) (Some y) = same x y
+
+  pub slot_same : (a b : Slot V) → (option_eq E a.value b.value && nat_eq a.stop b.stop) ≡ is_eq (slot_order R a b)
+  slot_same a b =
+      (λ k. late_same a.value b.value k && ties unsigned_po (λ _ _. refl) a.stop b.stop k)
+      ∙ sym (then_same (late R a.value b.value) (nat_cmp a.stop b.stop))
 
 -- the greater amount comes first
 abbrev pub offer_order : Offer → Offer → Ordering

@@ -7,10 +7,9 @@ use Rattle.model.specs.Limits.{most_amount, last_time}
 use Rattle.model.specs.Admission.{judged}
 use Rattle.model.specs.Computation.{Computation, Lawful, Takes, Fires, StateBytes}
 use Rattle.model.specs.declared.record.Record.{Record}
-use Rattle.model.specs.declared.answer.Answer.{Answer}
 use Rattle.model.specs.declared.answer.Answer.TheVariants.{Done}
 use Rattle.model.proofs.Admitted.{may_take}
-use Rattle.computations.specs.Judging.{Taken, Refused, Fired, Attended}
+use Rattle.computations.specs.Judging.{Taken, Fired, Attended}
 
 module _ {S : Type 0} (c : Computation S) (Sound : S → Type 0) (l : Lawful c Sound) (bs : List ℕ) (b : StateBytes bs) (s : S) (e : s ≡ c.load bs) where
   pub sound_state : Sound s
@@ -26,14 +25,6 @@ module _ {S : Type 0} (c : Computation S) (Sound : S → Type 0) (l : Lawful c S
         (λ (x : S). Taken c Sound x on w seen r n)
         e
         (record { admitted = h; after = k; sound = subst (λ (y : S × Option (ℕ × ℕ)). Sound y.0) (sym k) (l.take_sound _ _ _ _ takes) })
-
-  pub refused
-      : (on : Bool) (w : ℕ) (seen : Bool) (r : Record) (a : Answer)
-      → a ≡ judged c s on w seen r
-      → (a ≡ Done → ⊥)
-      → Refused c Sound (c.load bs) on w seen r a
-  refused on w seen r a h n =
-      subst (λ (x : S). Refused c Sound x on w seen r a) e (record { answer = h; refused = n })
 
   module _ (w d : ℕ) (h : c.due s ≡ Some d) (k : d ≤ min w last_time) where
     fires : Fires c Sound s (min w last_time) d
