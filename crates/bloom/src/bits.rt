@@ -10,12 +10,7 @@ const BITS: u32 = 16_384;
 fn mix(taken: Taken) -> u32
     ensures { result ≡ mixed taken.stop taken.name }
 {
-    let Taken { stop, name } = taken;
-    name.serial
-        .wrapping_mul(2_654_435_761)
-        .wrapping_add(name.time.wrapping_mul(40_503))
-        .wrapping_add(u32::from(name.sender).wrapping_mul(32))
-        .wrapping_add(u32::from(stop))
+    taken.weighed(2_654_435_761, 40_503, 32, 1)
 }
 
 // The i-th bit of a walk that starts at a and goes on by b.
@@ -31,5 +26,5 @@ pub fn bits_of(taken: Taken) -> [usize; 4]
 {
     let a = mix(taken);
     let b = a.rotate_left(16) | 1;
-    [step(a, b, 0), step(a, b, 1), step(a, b, 2), step(a, b, 3)]
+    [0, 1, 2, 3].map(|i| step(a, b, i))
 }

@@ -7,7 +7,8 @@ use crate::places::Places;
 
 mod calls;
 
-// The places, how many of them are taken, and as many again for the names that stay when some are dropped.
+// The places, how many of them are taken, and as many again for the names that stay when some are dropped. The count is no
+// length of a buffer, which always has 2,048 places; it is kept so that no add has to count.
 #[derive(Drop)]
 pub struct HashedNames {
     places: Places,

@@ -3,3 +3,4 @@ pub mod Order
 pub mod Changes
 pub mod Rows
 pub mod Fill
+pub mod Weighed

@@ -6,6 +6,7 @@ ghost use Rattle.std.specs.Cmp.Rules.{comparing};
 ghost use Rattle.std.specs.Ordering.{as_partial_cmp};
 ghost use Rattle.names.specs.Order.{taken_cmp};
 ghost use Rattle.names.specs.Changes.{is_below};
+ghost use Rattle.names.specs.Weighed.{weighed};
 
 use model::Name;
 use std::cmp::Ordering;
@@ -18,6 +19,21 @@ pub struct Taken {
 }
 
 impl Taken {
+    // All that it says as one number of 32 bits, each part by a weight.
+    pub fn weighed(self, serial: u32, time: u32, sender: u32, stop: u32) -> u32
+        ensures { result ≡ weighed serial time sender stop self }
+    {
+        let Taken {
+            stop: place,
+            name,
+        } = self;
+        name.serial
+            .wrapping_mul(serial)
+            .wrapping_add(name.time.wrapping_mul(time))
+            .wrapping_add(u32::from(name.sender).wrapping_mul(sender))
+            .wrapping_add(u32::from(place).wrapping_mul(stop))
+    }
+
     // Whether this is one of the stop's names with times below the floor.
     pub fn is_below(&self, stop: u16, floor: u32) -> bool
         ensures { result ≡ is_below stop floor self.now }
@@ -26,7 +42,8 @@ impl Taken {
     }
 }
 
-// By stop, then by time: so a stop's names below a floor stand side by side. The order of `Name` begins with the sender.
+// By stop, then by time: so a stop's names below a floor stand side by side. A derive would go by the order of `Name`, which
+// is public and begins with the sender.
 impl Ord for Taken {
     ghost cmp = { taken_cmp };
 

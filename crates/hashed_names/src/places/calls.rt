@@ -13,13 +13,7 @@ const PLACES: usize = 2_048;
 fn home_of(taken: Taken) -> usize
     ensures { result ≡ home_of taken.stop taken.name }
 {
-    let Taken { stop, name } = taken;
-    let mixed = name
-        .serial
-        .wrapping_mul(2_654_435_761)
-        .wrapping_add(name.time.wrapping_mul(2_246_822_519))
-        .wrapping_add(u32::from(name.sender).wrapping_mul(3_266_489_917))
-        .wrapping_add(u32::from(stop).wrapping_mul(668_265_263));
+    let mixed = taken.weighed(2_654_435_761, 2_246_822_519, 3_266_489_917, 668_265_263);
     (mixed >> 21) as usize
 }
 

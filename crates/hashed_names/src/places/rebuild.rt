@@ -34,6 +34,7 @@ impl Places {
         ensures { Rebuilt (slots_of self.now) stop floor (slots_of other.new) result }
     {
         other.clear();
+        // Counted by hand, as only `insert` can say whether a place was taken.
         let mut count = 0;
         for slot in &self.slots {
             let Some(taken) = slot else {

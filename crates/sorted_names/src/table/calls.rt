@@ -62,10 +62,8 @@ impl NameSet for SortedNames {
         if self.items.len() == MOST {
             return Answer::Full;
         }
-        match self.items.insert(place, taken) {
-            Ok(()) => Answer::Done,
-            Err(_) => unreachable(),
-        }
+        self.items.insert(place, taken).unwrap();
+        Answer::Done
     }
 
     fn drop_below(&mut self, stop: u16, floor: u32) {

@@ -19,5 +19,9 @@ invariant_of-self c =
 
 pub returns : goal.returns
 returns c =
-    let few : vec_len c.args.self.now.items < 1280 = omega (arith, c.len.ensures, c.args.self.now.few) in
-    put_in (absent_lent c.deref.ensures.value c.in-Err.ensures.finds) c.in-Ok.ensures.items few c.in-Ok.ensures.len
+    let table = c.args.self.now in
+    let few : vec_len table.items < 1280 = omega (arith, c.len.ensures, table.few) in
+    let done = c.insert.ensures.succeeds (omega (arith, few, table.roomy)) in
+    let items = c.insert.ensures.items ∙ cond-true _ _ _ done in
+    let len = c.insert.ensures.len ∙ cond-true _ _ _ done in
+    put_in (absent_lent c.deref.ensures.value c.in-Err.ensures.finds) items few len
