@@ -2,7 +2,7 @@
 ghost use Rattle.std.specs.Prelude.{◌≡◌};
 ghost use Rattle.assembly.specs.declared.failure.Failure.TheVariants.{NoMemory};
 
-use parser::{Misread, Wanted};
+use parser::Misread;
 use std::alloc::AllocError;
 use std::fmt;
 
@@ -38,20 +38,8 @@ impl<'a> fmt::Display for Failure<'a> {
             Failure::NoMemory => write!(f, "not enough memory"),
             Failure::BadLine { number, misread } => {
                 let word = quoted(misread.word);
-                write!(f, "line {number}: {word}: expected ")?;
-                match misread.wanted {
-                    Wanted::Call => write!(f, "the name of a call"),
-                    Wanted::Name(field) => {
-                        let name = field.name();
-                        write!(f, "{name}")
-                    }
-                    Wanted::Number(field) => {
-                        let name = field.name();
-                        let most = field.most();
-                        write!(f, "a number up to {most} ({name})")
-                    }
-                    Wanted::End => write!(f, "the end of the line"),
-                }
+                let wanted = misread.wanted;
+                write!(f, "line {number}: {word}: expected {wanted}")
             }
         }
     }

@@ -5,3 +5,4 @@ pub mod Parsed
 pub mod Left
 pub mod Lines
 pub mod Fronts
+pub mod Wants

@@ -1,6 +1,8 @@
 // The numbers that a call has, by the word that stands before each in a line, and how large each can be.
-ghost use Rattle.std.specs.Prelude.{◌≡◌};
+ghost use Rattle.std.specs.Prelude.{◌≡◌, Some};
 ghost use Rattle.parser.specs.Fields.{field_name, most_of};
+
+use std::fmt;
 
 #[derive(Clone, Copy, PartialEq, Eq, Debug)]
 pub enum Field {
@@ -43,5 +45,13 @@ impl Field {
             Field::Serial | Field::Time | Field::Left => 4294967295,
             Field::Node | Field::Place | Field::Tear | Field::Fill => 255,
         }
+    }
+}
+
+impl fmt::Display for Field {
+    ghost output = { λ f. Some (field_name f) };
+
+    fn fmt<W: fmt::Write>(&self, f: &mut fmt::Formatter<W>) -> fmt::Result {
+        f.write_str(self.name())
     }
 }

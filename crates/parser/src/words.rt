@@ -1,9 +1,11 @@
 // The words of a line, one after another.
-ghost use Rattle.std.specs.Prelude.{◌≡◌, ◌≤◌, ℕ, Bool, length};
+ghost use Rattle.std.specs.Prelude.{◌≡◌, ◌≤◌, ℕ, Bool, length, Some};
 ghost use Rattle.std.specs.List.{prefix_len};
+ghost use Rattle.parser.specs.Wants.{wanted_words};
 ghost use Rattle.parser.specs.Words.{blank, rest_of, solid, word_of};
 
 use super::field::Field;
+use std::fmt;
 
 // What should have stood in place of a word.
 #[derive(Clone, Copy)]
@@ -12,6 +14,22 @@ pub enum Wanted {
     Name(Field),
     Number(Field),
     End,
+}
+
+impl fmt::Display for Wanted {
+    ghost output = { λ w. Some (wanted_words w) };
+
+    fn fmt<W: fmt::Write>(&self, f: &mut fmt::Formatter<W>) -> fmt::Result {
+        match self {
+            Wanted::Call => write!(f, "the name of a call"),
+            Wanted::Name(field) => write!(f, "{field}"),
+            Wanted::Number(field) => {
+                let most = field.most();
+                write!(f, "a number up to {most} ({field})")
+            }
+            Wanted::End => write!(f, "the end of the line"),
+        }
+    }
 }
 
 // The word at fault, empty at the end of the line, and what should have stood there.
