@@ -28,6 +28,7 @@ impl Queue {
     }
 
     // A stop joins at the back, or keeps its place.
+    #[tactic(auto, using(crate::proofs::Standing::stands_any))]
     pub fn join(&mut self, stop: u16)
         ensures { lined self.new ≡ joined_by stop (lined self.old) }
     {

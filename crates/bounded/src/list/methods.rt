@@ -26,6 +26,7 @@ impl<T: Copy + Default, const N: usize> Bounded<T, N> {
     }
 
     // Adds these items at the end, as many as there is room for.
+    #[tactic(auto, using(crate::proofs::Extending::extended))]
     pub fn extend(&mut self, more: &[T])
         ensures { listed self.new ≡ take N (listed self.old ++ more.now) }
     {
