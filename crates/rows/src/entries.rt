@@ -100,7 +100,8 @@ impl Entry for Name {
     }
 }
 
-// Writes entries, one after another, from a place on.
+// Writes entries, one after another, from a place on. By places, as a proof knows nothing of what was written through
+// `chunks_exact_mut`.
 pub(crate) fn put_entries<E: Entry>(out: &mut [u8], at: usize, entries: &[E])
     requires { at + E.SIZE * length entries.now ≤ length out.old }
     ensures fits { (i : ℕ) (d : E) → i < length entries.now → E.fits (slice_index_or entries.now i d) }
@@ -111,7 +112,8 @@ pub(crate) fn put_entries<E: Entry>(out: &mut [u8], at: usize, entries: &[E])
     }
 }
 
-// So many entries, and at most N, from a place on.
+// So many entries, and at most N, from a place on. By places, as the definitions of Reading say it; `chunks_exact` would
+// ask of each entry a law that its bytes alone read the same.
 pub(crate) fn entries_in<E: Entry, const N: usize>(
     bytes: &[u8],
     at: usize,

@@ -3,4 +3,4 @@ use Rattle.std.proofs.lemmas.Fn.{says_at}
 use Rattle.bounded.proofs.list.fn.Bounded.retain.retain.Goals as goal
 
 pub returns : goal.returns
-returns g c = record { says = search (rules, says_at g.F.Fn c.keep.ensures); same = refl }
+returns g c = record { says = says_at g.F.Fn c.keep.ensures (search rules); same = refl }
