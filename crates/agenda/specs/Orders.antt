@@ -2,10 +2,11 @@
 use Rattle.std.specs.Prelude.{◌≡◌, Bool, ◌&&◌, nat_eq, Some, None, Option, refl}
 use Rattle.std.specs.declared.cmp.Ordering.TheVariants.{Less, Equal, Greater}
 use Rattle.std.specs.declared.cmp.Ordering.{Ordering}
-use Rattle.std.proofs.Common.{true≢false, ap, sym, ◌∙◌}
-use Rattle.std.specs.Option.{option_eq}
+use Rattle.std.proofs.Common.{sym, subst, ◌∙◌}
+use Rattle.std.specs.Option.{option_cmp, option_eq}
 use Rattle.std.specs.Cmp.{IsTotalOrder, nat_cmp_total, on_total, then_total, back_total, ties, unsigned_po}
-use Rattle.std.specs.Ordering.{is_eq, is_lt, is_gt, ordering_reverse, ordering_then, nat_cmp, on, flip_args, then_cmp}
+use Rattle.std.specs.Cmp.Lexicographic.{options_total}
+use Rattle.std.specs.Ordering.{is_eq, ordering_then, nat_cmp, on, flip_args, then_cmp}
 use Rattle.agenda.specs.declared.offer.Offer.{Offer}
 use Rattle.agenda.specs.declared.slot.Slot.{Slot}
 
@@ -19,30 +20,16 @@ late R (Some x) (Some y) = R x y
 abbrev pub slot_order : {V : Type 0} → (V → V → Ordering) → Slot V → Slot V → Ordering
 slot_order R = then_cmp (on (λ x. x.value) (late R)) (on (λ x. x.stop) nat_cmp)
 
+-- it is the library's order of options, where none is before all, turned round twice
+late_back : {V : Type 0} (R : V → V → Ordering) (p q : Option V) → flip_args (option_cmp (flip_args R)) p q ≡ late R p q
+late_back R None None = refl
+late_back R None (Some y) = refl
+late_back R (Some x) None = refl
+late_back R (Some x) (Some y) = refl
+
 module _ {V : Type 0} {R : V → V → Ordering} (o : IsTotalOrder R) where
-  pub late_flip : (p q : Option V) → late R p q ≡ ordering_reverse (late R q p)
-  late_flip None None = refl
-  late_flip None (Some y) = refl
-  late_flip (Some x) None = refl
-  late_flip (Some x) (Some y) = o.antisymm x y
-
-  pub late_trans : (p q s : Option V) → late R p q ≡ Less → late R q s ≡ Less → late R p s ≡ Less
-  late_trans None None s h k = k
-  late_trans None (Some y) s h k = absurd (true≢false (ap is_gt h))
-  late_trans (Some x) None None h k = h
-  late_trans (Some x) None (Some z) h k = absurd (true≢false (ap is_gt k))
-  late_trans (Some x) (Some y) None h k = refl
-  late_trans (Some x) (Some y) (Some z) h k = o.trans x y z h k
-
-  pub late_alike : (p q s : Option V) → late R p q ≡ Equal → late R p s ≡ late R q s
-  late_alike None None s h = refl
-  late_alike None (Some y) s h = absurd (true≢false (ap is_gt h))
-  late_alike (Some x) None s h = absurd (true≢false (ap is_lt h))
-  late_alike (Some x) (Some y) None h = refl
-  late_alike (Some x) (Some y) (Some z) h = o.congr x y z h
-
   pub latest : IsTotalOrder (late R)
-  latest = record { antisymm = late_flip; trans = late_trans; congr = late_alike }
+  latest = subst IsTotalOrder (λ i p q. late_back R p q i) (back_total (options_total (back_total o)))
 
   -- the order of slots is total if that of the values is
   pub slot_total : IsTotalOrder (slot_order R)

@@ -34,6 +34,8 @@ impl<V: Ord> Ord for Slot<V> {
 
     fn cmp(&self, other: &Slot<V>) -> Ordering {
         let none_last = self.value.is_none().cmp(&other.value.is_none());
-        none_last.then(self.value.cmp(&other.value)).then(self.stop.cmp(&other.stop))
+        none_last
+            .then(self.value.cmp(&other.value))
+            .then(self.stop.cmp(&other.stop))
     }
 }
