@@ -1,19 +1,17 @@
 -- What the calls on the link come to. Assumes nothing.
 use Rattle.std.proofs.Common.{◌≡◌, ℕ, ◌<◌, ◌≤◌, Bool, true, false, cond, ◌||◌, ltb, leb, List, [], ◌∷◌, ◌++◌, length, Some, None, Option, sym, ap, ◌∙◌, append-nil, inl, inr, arith}
-use Rattle.std.proofs.lemmas.Bool.{cond-true, cond-false, ltb-true, leb-false, lt-leb, lt-ltb, le-leb}
+use Rattle.std.proofs.lemmas.Bool.{cond-true, leb-false, lt-ltb, le-leb}
 use Rattle.std.proofs.lemmas.List.Edits.{length-remove}
 use Rattle.std.proofs.lemmas.Option.{none-some, slice_get_cases, slice_get_within}
 use Rattle.std.specs.List.{remove, slice_get}
 use Rattle.model.specs.Answers.{is_done, is_seen}
 use Rattle.model.specs.Limits.{most_messages, last_time}
 use Rattle.model.specs.declared.answer.Answer.{Answer}
-use Rattle.model.specs.declared.answer.Answer.TheVariants.{Done}
-use Rattle.model.specs.declared.answer.Outcome.TheVariants.{Plain}
 use Rattle.model.specs.declared.record.Message.{Message}
 use Rattle.model.specs.declared.record.Message.TheVariants.{Produced, Acknowledged}
 use Rattle.model.specs.declared.record.Production.{Production}
 use Rattle.law.specs.Node.{Free, hand_in, clear, advance}
-use Rattle.law.specs.Pair.{Kits, Pair, at_collector, at_spotter, with_link, repeat, repeat_of, arrives, as_record, reply, deliver, deliver_of, low_watermark, pass}
+use Rattle.law.specs.Pair.{Kits, Pair, at_collector, at_spotter, with_link, arrives, as_record, reply, deliver, deliver_of, low_watermark, pass}
 use Rattle.law.proofs.Best.{low_tells}
 use Rattle.link.specs.declared.Link.{Link}
 use Rattle.link.specs.Carried.{carried}
