@@ -1,63 +1,52 @@
 -- What the calls on the link come to. Assumes nothing.
-use Rattle.std.proofs.Common.{◌≡◌, ℕ, zero, suc, ◌<◌, ◌≤◌, Bool, true, false, cond, ◌||◌, ltb, leb, List, [], ◌∷◌, ◌++◌, length, Some, None, Option, sym, ap, ◌∙◌, append-nil, arith, length-take}
-use Rattle.std.proofs.lemmas.Bool.{cond-true, cond-false, ltb-true, leb-false, lt-leb, lt-ltb, le-leb}
+use Rattle.std.proofs.Common.{◌≡◌, ℕ, ◌<◌, ◌≤◌, Bool, true, false, cond, ◌||◌, ltb, leb, List, [], ◌∷◌, ◌++◌, length, Some, None, Option, sym, ap, ◌∙◌, append-nil, inl, inr, arith}
+use Rattle.std.proofs.lemmas.Bool.{cond-true, leb-false, lt-ltb, le-leb}
+use Rattle.std.proofs.lemmas.List.Edits.{length-remove}
+use Rattle.std.proofs.lemmas.Option.{none-some, slice_get_cases, slice_get_within}
 use Rattle.std.specs.List.{remove, slice_get}
 use Rattle.model.specs.Answers.{is_done, is_seen}
 use Rattle.model.specs.Limits.{most_messages, last_time}
 use Rattle.model.specs.declared.answer.Answer.{Answer}
-use Rattle.model.specs.declared.answer.Answer.TheVariants.{Done}
-use Rattle.model.specs.declared.answer.Outcome.TheVariants.{Plain}
 use Rattle.model.specs.declared.record.Message.{Message}
 use Rattle.model.specs.declared.record.Message.TheVariants.{Produced, Acknowledged}
 use Rattle.model.specs.declared.record.Production.{Production}
 use Rattle.law.specs.Node.{Free, hand_in, clear, advance}
-use Rattle.law.specs.Pair.{Kits, Pair, at_collector, at_spotter, with_link, repeat, repeat_of, arrives, as_record, reply, deliver, deliver_of, low_watermark, pass}
+use Rattle.law.specs.Pair.{Kits, Pair, at_collector, at_spotter, with_link, arrives, as_record, reply, deliver, deliver_of, low_watermark, pass}
 use Rattle.law.proofs.Best.{low_tells}
 use Rattle.link.specs.declared.Link.{Link}
 use Rattle.link.specs.Carried.{carried}
 
 -- a link carries no more messages than it may
 few : (l : Link) → length (carried l) ≤ most_messages
-few l = omega (arith, length-take l.messages.count l.messages.items, l.messages.within)
+few l = omega (arith, l.messages.within)
 
-none_some : (m : Message) → ◌≡◌ {A = Option Message} None (Some m) → ⊥
-none_some m e = let z : ◌≡◌ {A = ℕ} 0 1 = cc in omega arith
-
--- a message that is there, and the number of those left without it
-there : (ms : List Message) (i : ℕ) (m : Message) → slice_get ms i ≡ Some m → i < length ms
-there [] i m e = absurd (none_some m e)
-there (x ∷ ms) zero m e = omega arith
-there (x ∷ ms) (suc i) m e = let below = there ms i m e in omega arith
-
-fewer : (ms : List Message) (i : ℕ) → i < length ms → length (remove ms i) < length ms
-fewer [] i h = absurd (omega (arith, h))
-fewer (x ∷ ms) zero h = omega arith
-fewer (x ∷ ms) (suc i) h = let below = fewer ms i (omega (arith, h)) in omega arith
+-- where there is no message, none lies past it
+pub nothing_there : (ms : List Message) (i : ℕ) → slice_get ms i ≡ None → length ms ≤ i
+nothing_there ms i e = elim (slice_get_cases ms i).1 [ inl x ↦ absurd (none-some x.0 (sym e ∙ x.2)) | inr past ↦ past.0 ]
 
 -- a message is taken out of a link, and then another may be added
-module _ (l l₁ : Link) (place : ℕ) (m : Message) (stood : slice_get (carried l) place ≡ Some m) {out : Bool} (out-is : out ≡ ltb place (length (carried l))) (gone : carried l₁ ≡ cond out (remove (carried l) place) (carried l)) where
+module _ (l l₁ : Link) (place : ℕ) (m : Message) (stood : slice_get (carried l) place ≡ Some m) (gone : carried l₁ ≡ cond (ltb place (length (carried l))) (remove (carried l) place) (carried l)) where
   pub taken_out : carried l₁ ≡ remove (carried l) place
-  taken_out = gone ∙ cond-true _ _ _ (out-is ∙ lt-ltb place (length (carried l)) (there (carried l) place m stood))
+  taken_out = gone ∙ cond-true _ _ _ (lt-ltb place (length (carried l)) (slice_get_within (carried l) place m stood))
 
   pub then_added
-      : (l₂ : Link) (n : Message) {room : Bool}
-      → room ≡ ltb (length (carried l₁)) most_messages → carried l₂ ≡ cond room (carried l₁ ++ (n ∷ [])) (carried l₁)
+      : (l₂ : Link) (n : Message) → carried l₂ ≡ cond (ltb (length (carried l₁)) most_messages) (carried l₁ ++ (n ∷ [])) (carried l₁)
       → carried l₂ ≡ remove (carried l) place ++ (n ∷ [])
-  then_added l₂ n room-is messages =
-      let less = fewer (carried l) place (there (carried l) place m stood) in
+  then_added l₂ n messages =
+      let one_less = length-remove (carried l) place (slice_get_within (carried l) place m stood) in
       let at_most = few l in
-      let shorter : length (carried l₁) < most_messages = omega (arith, ap length taken_out) in
-      messages ∙ cond-true _ _ _ (room-is ∙ lt-ltb _ most_messages shorter) ∙ ap (λ (ms : List Message). ms ++ (n ∷ [])) taken_out
+      let shorter : length (carried l₁) < most_messages = omega (arith, one_less, ap length taken_out) in
+      messages ∙ cond-true _ _ _ (lt-ltb _ most_messages shorter) ∙ ap (λ (ms : List Message). ms ++ (n ∷ [])) taken_out
 
 -- a message joins a link that is not full
 pub added
-    : (l l₁ : Link) (n : Message) {room : Bool}
+    : (l l₁ : Link) (n : Message)
     → leb most_messages (length (carried l)) ≡ false
-    → room ≡ ltb (length (carried l)) most_messages → carried l₁ ≡ cond room (carried l ++ (n ∷ [])) (carried l)
+    → carried l₁ ≡ cond (ltb (length (carried l)) most_messages) (carried l ++ (n ∷ [])) (carried l)
     → carried l₁ ≡ carried l ++ (n ∷ [])
-added l l₁ n free room-is messages =
+added l l₁ n free messages =
     let less = leb-false most_messages (length (carried l)) free in
-    messages ∙ cond-true _ _ _ (room-is ∙ lt-ltb (length (carried l)) most_messages less)
+    messages ∙ cond-true _ _ _ (lt-ltb (length (carried l)) most_messages less)
 
 -- whether word goes back
 pub reply_yes : (s serial : ℕ) (a : Answer) (rest : List Message) → (is_done a || is_seen a) ≡ true → rest ++ (Acknowledged s serial ∷ []) ≡ rest ++ reply s serial a

@@ -42,10 +42,10 @@ impl<S: Store, N: NameSet, C: Computation, T: Store, O: NameSet, D: Computation>
             return Ok(Outcome::Plain(Answer::Off));
         }
         let answer = self.spotter.hand_in(&as_record(stop, production))?;
-        self.link.take_out(place);
+        let _ = self.link.take_out(place);
         if is_known(answer) {
             let serial = production.serial;
-            self.link.add(Message::Acknowledged { stop, serial });
+            let _ = self.link.add(Message::Acknowledged { stop, serial });
         }
         Ok(Outcome::Plain(answer))
     }
@@ -57,7 +57,7 @@ impl<S: Store, N: NameSet, C: Computation, T: Store, O: NameSet, D: Computation>
         if !self.collector.is_on() {
             return Ok(Outcome::Plain(Answer::Off));
         }
-        self.link.take_out(place);
+        let _ = self.link.take_out(place);
         self.collector.clear(stop, serial).map(Outcome::Plain)
     }
 }

@@ -42,10 +42,10 @@ impl<S: Store, N: NameSet, C: Computation, T: Store, O: NameSet, D: Computation>
     pub fn lose(&mut self, place: u8) -> Outcome
         ensures { Steps S.Store N.NameSet C.Computation T.Store O.NameSet D.Computation self.old self.new (Lose place) (Ok result) }
     {
-        if !self.link.take_out(place) {
-            return Outcome::Plain(Answer::NoMessage);
+        match self.link.take_out(place) {
+            Some(_) => Outcome::Plain(Answer::Done),
+            None => Outcome::Plain(Answer::NoMessage),
         }
-        Outcome::Plain(Answer::Done)
     }
 
     // The message at a place comes once more.
@@ -55,9 +55,9 @@ impl<S: Store, N: NameSet, C: Computation, T: Store, O: NameSet, D: Computation>
         let Some(message) = self.link.at(place) else {
             return Outcome::Plain(Answer::NoMessage);
         };
-        if !self.link.add(message) {
-            return Outcome::Plain(Answer::LinkFull);
+        match self.link.add(message) {
+            Ok(()) => Outcome::Plain(Answer::Done),
+            Err(full) => Outcome::Plain(full),
         }
-        Outcome::Plain(Answer::Done)
     }
 }

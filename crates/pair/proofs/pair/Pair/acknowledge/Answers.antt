@@ -23,7 +23,7 @@ returns g c = λ stood p shows.
     let free = collector_free g.S.Store g.N.NameSet g.C.Computation g.T.Store g.O.NameSet g.D.Computation 0 v v' in
     let on = sym (is_on g.S.Store g.N.NameSet g.C.Computation g.met.S.Store.turn_within v.collector p.collector shows.collector) ∙ sym c.if-not-is_on.ensures in
     let here = ap (λ (ms : List Message). slice_get ms place) (sym shows.link) ∙ stood in
-    let gone = taken_out v.link l place (Acknowledged s n) stood c.take_out.ensures.there c.take_out.ensures.messages in
+    let gone = taken_out v.link l place (Acknowledged s n) stood c.take_out.ensures.messages in
     told_as (ap (λ (f : Free). deliver kits f place p) (free_word g.S.Store g.N.NameSet g.C.Computation g.T.Store g.O.NameSet g.D.Computation v v' place s n stood) ∙ deliver_word kits free place p s n here on)
     (told_collector g.S.Store g.N.NameSet g.C.Computation g.T.Store g.O.NameSet g.D.Computation c.clear.new.self v.spotter l (with_link (remove p.link place) p) c.map.ensures.cases
     (c.clear.ensures p.collector shows.collector) shows.spotter (gone ∙ ap (λ (ms : List Message). remove ms place) shows.link))

@@ -15,7 +15,7 @@ returns-then-is_known g c = λ stood p shows.
     let x = c.args.production in
     let on = sym (is_on g.T.Store g.O.NameSet g.D.Computation g.met.T.Store.turn_within v.spotter p.spotter shows.spotter) ∙ sym c.if-not-is_on.ensures in
     let link =
-    then_added v.link c.take_out.new.self place (Produced s x) stood c.take_out.ensures.there c.take_out.ensures.messages c.add.new.self (Acknowledged s x.serial) c.add.ensures.room c.add.ensures.messages
+    then_added v.link c.take_out.new.self place (Produced s x) stood c.take_out.ensures.messages c.add.new.self (Acknowledged s x.serial) c.add.ensures.messages
     ∙ ap (λ (ms : List Message). remove ms place ++ (Acknowledged s x.serial ∷ [])) shows.link
     ∙ reply_yes s x.serial c.in_ok-answer.answer (remove p.link place) (sym c.is_known.ensures ∙ c.if-is_known.true) in
     told_landing g.S.Store g.N.NameSet g.C.Computation g.T.Store g.O.NameSet g.D.Computation v c.hand_in.new.self c.add.new.self place s x p stood shows on c.as_record.ensures (c.in_ok-answer.ensures p.spotter shows.spotter) link
@@ -28,7 +28,7 @@ returns-else-is_known g c = λ stood p shows.
     let x = c.args.production in
     let on = sym (is_on g.T.Store g.O.NameSet g.D.Computation g.met.T.Store.turn_within v.spotter p.spotter shows.spotter) ∙ sym c.if-not-is_on.ensures in
     let link =
-    taken_out v.link c.take_out.new.self place (Produced s x) stood c.take_out.ensures.there c.take_out.ensures.messages
+    taken_out v.link c.take_out.new.self place (Produced s x) stood c.take_out.ensures.messages
     ∙ ap (λ (ms : List Message). remove ms place) shows.link
     ∙ reply_no s x.serial c.in_ok-answer.answer (remove p.link place) (sym c.is_known.ensures ∙ c.if-is_known.false) in
     told_landing g.S.Store g.N.NameSet g.C.Computation g.T.Store g.O.NameSet g.D.Computation v c.hand_in.new.self c.take_out.new.self place s x p stood shows on c.as_record.ensures (c.in_ok-answer.ensures p.spotter shows.spotter) link

@@ -5,7 +5,7 @@ use Rattle.node.proofs.Showing.{is_on, rewrapped}
 use Rattle.pair.specs.Shows.{kits_of, spotter_free}
 use Rattle.pair.specs.declared.pair.Pair.{Pair}
 use Rattle.pair.proofs.Linking.{pass_advances}
-use Rattle.pair.proofs.Telling.{ok_is, err_none, told_as, told_spotter}
+use Rattle.pair.proofs.Telling.{ok_is, told_as, told_spotter}
 use Rattle.pair.proofs.pair.Pair.pass.Goals as goal
 
 pub returns : goal.returns

@@ -31,7 +31,7 @@ returns g c = λ p shows.
     let head = sym (c.in-Some.ensures p.collector shows.collector on) in
     let room = sym c.is_full.ensures ∙ c.if-is_full.false in
     let below = head_below p on queued c.in-Some.stop head in
-    let joins = added v.link c.add.new.self _ room c.add.ensures.room c.add.ensures.messages in
+    let joins = added v.link c.add.new.self _ room c.add.ensures.messages in
     told_as (send_head_lem p on queued c.in-Some.stop _ head (ap (λ (ms : List Message). leb most_messages (length ms)) (sym shows.link) ∙ room) (sym (c.in-Some-oldest.ensures p.collector shows.collector on below)))
     (record {
       outcome = refl;
