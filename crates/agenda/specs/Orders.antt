@@ -20,7 +20,7 @@ late R (Some x) (Some y) = R x y
 abbrev pub slot_order : {V : Type 0} → (V → V → Ordering) → Slot V → Slot V → Ordering
 slot_order R = then_cmp (on (λ x. x.value) (late R)) (on (λ x. x.stop) nat_cmp)
 
--- it is the library's order of options, where none is before all, turned round twice
+-- the library's order of options, where none is before all, turned round twice
 late_back : {V : Type 0} (R : V → V → Ordering) (p q : Option V) → flip_args (option_cmp (flip_args R)) p q ≡ late R p q
 late_back R None None = refl
 late_back R None (Some y) = refl

@@ -22,7 +22,8 @@ impl<V: Ord> PartialOrd for Slot<V> {
     }
 }
 
-// By the value, none behind all, then by the stop.
+// By the value, none behind all, then by the stop. By hand: a derive would put none first, or take each value as
+// `Reverse<Option<Reverse<V>>>`, which every use has to wrap and unwrap twice.
 impl<V: Ord> Ord for Slot<V> {
     ghost cmp = { slot_order V.cmp };
 
