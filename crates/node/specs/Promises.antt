@@ -1,17 +1,22 @@
 -- What the calls of a node promise. Assumes nothing.
 use Rattle.std.specs.Prelude.{◌≡◌, ℕ, ◌<◌, Bool, true, cond, IsOkAnd, Some, None, Ok, Option, Result, nat_le}
 use Rattle.model.specs.Limits.{stops}
-use Rattle.model.specs.Row.{Row}
+use Rattle.model.specs.OnBytes.{on_bytes}
+use Rattle.model.specs.Row.{Row, oldest}
 use Rattle.model.specs.declared.answer.Answer.{Answer}
 use Rattle.model.specs.declared.answer.Answer.TheVariants.{Done, OutOfRange, Off}
 use Rattle.model.specs.declared.record.Name.{Name}
 use Rattle.stores.specs.declared.store.Store.{Ghosts as Stores}
 use Rattle.names.specs.declared.set.NameSet.{Ghosts as Sets}
 use Rattle.computations.specs.declared.computation.Computation.{Ghosts as Computations}
+use Rattle.agenda.specs.Meaning.{due_at, shown_at}
+use Rattle.agenda.specs.Slots.{changed}
+use Rattle.queue.specs.Lines.{lined}
 use Rattle.rows.specs.Meaning.{row_of}
 use Rattle.rows.specs.declared.stop_row.StopRow.{StopRow}
-use Rattle.law.specs.Node.{Node as LawNode, Kit, Free, commit_row}
+use Rattle.law.specs.Node.{Node as LawNode, Kit, Free, commit_row, requeued}
 use Rattle.law.specs.Rows.{seen}
+use Rattle.upkeep.specs.Lines.{Line}
 use Rattle.upkeep.specs.Names.{renamed, Fresh}
 use Rattle.node.specs.Shows.{kit_of, free_of, Shows}
 use Rattle.node.specs.declared.node.Node.{Node}
@@ -57,6 +62,15 @@ module _ {S N C T : Type 0} (store : Stores S) (set : Sets N) (computation : Com
   pub record Read (s : ℕ) (r : Result StopRow Damaged) : Type 0 where
     pub stays : Stays
     pub row : WhileOn store set computation v (λ n. s < stops → IsOkAnd r (λ row. row_of row ≡ n.row s))
+
+  -- timers, panel and queue were brought in step with a stop's row
+  pub record Followed (s : ℕ) (row : Row) : Type 0 where
+    pub store_is : v'.store ≡ v.store
+    pub names_are : v'.names ≡ v.names
+    pub watermark : v'.watermark ≡ v.watermark
+    pub due : due_at v'.timers ≡ changed s ((on_bytes computation.operations).due row.state) (due_at v.timers)
+    pub shown : shown_at v'.panel ≡ changed s (oldest row.pending) (shown_at v.panel)
+    pub queue : Line (lined v.queue) → s < stops → lined v'.queue ≡ requeued s row.pending (lined v.queue)
 
   -- a name was asked for
   pub record Asked (s : ℕ) (k : Name) (r : Bool) : Type 0 where

@@ -20,6 +20,8 @@ const LAST_TIME: u32 = 4_000_000_000;
 #[derive(Clone, Copy, PartialEq, Eq, Debug)]
 pub struct Damaged;
 
+// A store S, a name set N and a computation C, which clauses name one by one: the ghost record of a trait that bundles the
+// three would not carry their own.
 #[derive(Drop)]
 pub struct Node<S, N, C> {
     store: S,

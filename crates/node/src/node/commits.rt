@@ -1,7 +1,7 @@
 // The steps that the calls are made of: reading a stop's row, asking for a name, committing a row.
 ghost use Rattle.std.specs.Prelude.{◌≡◌};
 ghost use Rattle.rows.specs.Meaning.{row_of};
-ghost use Rattle.node.specs.Promises.{Read, Asked, Commits};
+ghost use Rattle.node.specs.Promises.{Read, Asked, Commits, Followed};
 
 use super::{Damaged, Node};
 use computations::{Computation, due_in};
@@ -45,10 +45,17 @@ impl<S: Store, N: NameSet, C: Computation> Node<S, N, C> {
         let answer = commit_row(&mut self.store, stop, row);
         if answer == Answer::Done {
             rename(&mut self.names, stop, floor, come);
-            self.timers.set(stop, due_in::<C>(row.state()));
-            self.panel.set(stop, row.oldest());
-            requeue(&mut self.queue, stop, row);
+            self.follow(stop, row);
         }
         answer
+    }
+
+    // Timers, panel and queue follow a stop's row.
+    pub(crate) fn follow(&mut self, stop: u16, row: &StopRow)
+        ensures { Followed S.Store N.NameSet C.Computation self.old self.new stop (row_of row.now) }
+    {
+        self.timers.set(stop, due_in::<C>(row.state()));
+        self.panel.set(stop, row.oldest());
+        requeue(&mut self.queue, stop, row);
     }
 }

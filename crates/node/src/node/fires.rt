@@ -33,11 +33,8 @@ impl<S: Store, N: NameSet, C: Computation> Node<S, N, C> {
     fn due_stop(&self) -> Option<u16>
         ensures { result ≡ due_by self.now.watermark (earliest (due_at self.now.timers)) }
     {
-        let reached = self
-            .timers
-            .first()
-            .filter(|(_, due)| *due <= self.watermark);
-        reached.map(|(stop, _)| stop)
+        let (stop, due) = self.timers.first()?;
+        (due <= self.watermark).then_some(stop)
     }
 
     // Fires the due of a stop that the watermark has reached.

@@ -8,14 +8,13 @@ ghost use Rattle.node.specs.Shows.{Shows};
 
 use super::{Damaged, Node};
 use agenda::{Panel, Timers};
-use computations::{Computation, due_in};
+use computations::Computation;
 use ledger::{read_row, read_watermark};
 use model::Answer;
 use names::{NameSet, add_all};
 use queue::Queue;
 use std::marker::PhantomData;
 use stores::{Store, Supply};
-use upkeep::requeue;
 
 impl<S: Store, N: NameSet, C: Computation> Node<S, N, C> {
     // A node over a store that is off. Over a blank store nothing has happened to it yet.
@@ -79,9 +78,7 @@ impl<S: Store, N: NameSet, C: Computation> Node<S, N, C> {
     {
         let row = read_row(&mut self.store, stop).ok_or(Damaged)?;
         let _ = add_all(&mut self.names, stop, row.names());
-        self.timers.set(stop, due_in::<C>(row.state()));
-        self.panel.set(stop, row.oldest());
-        requeue(&mut self.queue, stop, &row);
+        self.follow(stop, &row);
         Ok(())
     }
 }
