@@ -79,7 +79,8 @@ impl<T: Copy, const N: usize> Bounded<T, N> {
         let Some(filler) = all.first() else { return };
         let mut kept = Bounded::new(*filler);
         for item in all {
-            if keep(item) {
+            let passes = keep(item);
+            if passes {
                 let _ = kept.push(*item);
             }
         }
