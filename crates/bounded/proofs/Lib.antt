@@ -1,1 +1,1 @@
-pub mod Extending
+mod Cuts

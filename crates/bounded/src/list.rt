@@ -1,13 +1,13 @@
 // A list of at most N items in memory of its own, so that nothing is allocated as it grows.
-ghost use Rattle.std.specs.Prelude.{◌≤◌};
-ghost use Rattle.arrayvec.specs.ArrayVec.{array_vec_len};
+ghost use Rattle.std.specs.Prelude.{◌≡◌, ◌≤◌, length};
 
 mod methods;
 
-use arrayvec::ArrayVec;
-
+// The kit's ArrayVec would ask a default of every item's type, which callers need not have.
 #[derive(Drop)]
 pub struct Bounded<T, const N: usize> {
-    items: ArrayVec<T, N>,
-    ghost within: { array_vec_len items ≤ N },
+    items: [T; N],
+    count: usize,
+    ghost sized: { length items ≡ N },
+    ghost within: { count ≤ N },
 }

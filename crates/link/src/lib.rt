@@ -23,7 +23,7 @@ impl Link {
         ensures { carried result ≡ [] }
     {
         Link {
-            messages: Bounded::new(),
+            messages: Bounded::new(Message::Acknowledged { stop: 0, serial: 0 }),
         }
     }
 

@@ -1,6 +1,4 @@
 // What guides hand in, what a node produces from it, and what travels on the link.
-ghost use Rattle.std.specs.Prelude.{◌≡◌};
-ghost use Rattle.model.specs.declared.record.Message.TheVariants.{Acknowledged};
 
 // The name of a record. Equal names at one stop mean one record, even if the amounts differ.
 #[derive(Clone, Copy, PartialEq, Eq, PartialOrd, Ord, Debug, Default)]
@@ -31,13 +29,4 @@ pub struct Production {
 pub enum Message {
     Produced { stop: u16, production: Production },
     Acknowledged { stop: u16, serial: u32 },
-}
-
-// What stands where the link has room for a message and carries none.
-impl Default for Message {
-    ghost is_default = { λ message. message ≡ Acknowledged 0 0 };
-
-    fn default() -> Message {
-        Message::Acknowledged { stop: 0, serial: 0 }
-    }
 }

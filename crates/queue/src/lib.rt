@@ -17,7 +17,7 @@ impl Queue {
         ensures { lined result ≡ [] }
     {
         Queue {
-            stops: Bounded::new(),
+            stops: Bounded::new(0),
         }
     }
 

@@ -122,7 +122,7 @@ pub(crate) fn entries_in<E: Entry, const N: usize>(
     requires { at + E.SIZE * N ≤ length bytes.now }
     ensures { listed result ≡ map (λ i. E.entry_in bytes.now (at + E.SIZE * i)) (range_with_len 0 (min N count)) }
 {
-    let mut list = Bounded::new();
+    let mut list = Bounded::new(E::default());
     for i in 0..usize::from(count).min(N) {
         let _ = list.push(E::read_at(bytes, at + E::SIZE * i));
     }

@@ -5,42 +5,42 @@ ghost use Rattle.std.specs.Fn.{FnReturnsAt};
 ghost use Rattle.bounded.specs.Lists.{listed, pushed, push_result};
 
 use super::Bounded;
-use arrayvec::{ArrayVec, CapacityError};
 
-impl<T: Copy + Default, const N: usize> Bounded<T, N> {
-    pub fn new() -> Bounded<T, N>
+impl<T: Copy, const N: usize> Bounded<T, N> {
+    // An empty list; the filler stands where no item does.
+    pub fn new(filler: T) -> Bounded<T, N>
         ensures { listed result ≡ [] }
     {
         Bounded {
-            items: ArrayVec::new(),
+            items: [filler; N],
+            count: 0,
         }
     }
 
     // The first N of these items.
-    pub fn copied(items: &[T]) -> Bounded<T, N>
+    pub fn copied(filler: T, items: &[T]) -> Bounded<T, N>
         ensures { listed result ≡ take N items.now }
     {
-        let mut list = Bounded::new();
+        let mut list = Bounded::new(filler);
         list.extend(items);
         list
     }
 
     // Adds these items at the end, as many as there is room for.
-    #[tactic(auto, using(crate::proofs::Extending::extended))]
     pub fn extend(&mut self, more: &[T])
         ensures { listed self.new ≡ take N (listed self.old ++ more.now) }
     {
-        let room = self.items.remaining_capacity();
-        let _ = self
-            .items
-            .try_extend_from_slice(&more[..room.min(more.len())]);
+        for item in more {
+            let _ = self.push(*item);
+        }
     }
 
     pub fn as_slice(&self) -> &[T]
         ensures value { result.now ≡ listed self.now }
         ensures bound { length result.now ≤ N }
     {
-        self.items.as_slice()
+        let all = &self.items[..];
+        &all[0..self.count]
     }
 
     // Adds an item at the end, or gives it back if there is no room.
@@ -48,7 +48,12 @@ impl<T: Copy + Default, const N: usize> Bounded<T, N> {
         ensures room { result ≡ push_result N item (listed self.old) }
         ensures items { listed self.new ≡ pushed N item (listed self.old) }
     {
-        self.items.try_push(item).map_err(CapacityError::element)
+        if self.count >= N {
+            return Err(item);
+        }
+        self.items[self.count] = item;
+        self.count += 1;
+        Ok(())
     }
 
     // Takes out the item at a place, if there is one; those behind it move up.
@@ -56,7 +61,13 @@ impl<T: Copy + Default, const N: usize> Bounded<T, N> {
         ensures item { result ≡ slice_get (listed self.old) place }
         ensures items { listed self.new ≡ (if nat_lt place (length (listed self.old)) then remove (listed self.old) place else listed self.old) }
     {
-        self.items.pop_at(place)
+        let all = self.as_slice();
+        let item = *all.get(place)?;
+        let mut rest = Bounded::new(item);
+        rest.extend(&all[0..place]);
+        rest.extend(&all[place + 1..]);
+        *self = rest;
+        Some(item)
     }
 
     // Keeps the items that pass a test, in their order.
@@ -64,18 +75,21 @@ impl<T: Copy + Default, const N: usize> Bounded<T, N> {
         requires { F.IsAlwaysCallable keep }
         ensures { (test : T → Bool) → ((x : T) (b : Bool) → FnReturnsAt F.Fn keep x b → b ≡ test x) → listed self.new ≡ filter test (listed self.old) }
     {
-        self.items.retain(
-            |item: &mut T| -> bool
-                requires { F.IsAlwaysCallable keep }
-                ensures says { FnReturnsAt F.Fn keep item.old result }
-                ensures same { item.new ≡ item.old }
-            { keep(item) },
-        );
+        let all = self.as_slice();
+        let Some(filler) = all.first() else { return };
+        let mut kept = Bounded::new(*filler);
+        for item in all {
+            let passes = keep(item);
+            if passes {
+                let _ = kept.push(*item);
+            }
+        }
+        *self = kept;
     }
 
     pub fn clear(&mut self)
         ensures { listed self.new ≡ [] }
     {
-        self.items.clear();
+        self.count = 0;
     }
 }

@@ -19,8 +19,8 @@ impl StopRow {
         StopRow {
             next: 0,
             state: [0; 32],
-            pending: Bounded::new(),
-            names: Bounded::new(),
+            pending: Bounded::new(Production::default()),
+            names: Bounded::new(Name::default()),
         }
     }
 
