@@ -1,3 +1,4 @@
 pub mod Failing
 pub mod Writing
 pub mod Rows
+pub mod Judging

@@ -18,13 +18,15 @@ pub fn as_page(bytes: &[u8]) -> Option<&Page>
     <&Page>::try_from(bytes).ok()
 }
 
-// A card that a store cannot be made on, given back as it came.
+// A card that a store cannot be made on, given back as it came: the caller has the card again with the answer, so the
+// error is both.
 #[derive(Drop)]
 pub struct Unfit {
     pub answer: Answer,
     pub card: Card,
 }
 
+// What power was, `left`, `tear` and `junk`, stays with a card that is off, as `failed` defines it: so they are no Option.
 #[derive(Drop)]
 pub struct Card {
     pages: Vec<Page>,

@@ -11,6 +11,8 @@ use crate::card::{Card, Page};
 use crate::tear::Tear;
 use model::Answer;
 
+// What row, write and restart say of a sound card that is on, and of a row that is there, is all that a store asks of
+// them: it has judged the call before it makes it.
 pub trait Layout {
     // How many rows there are, and how many pages the card has.
     const ROWS: usize;
