@@ -3,6 +3,7 @@ ghost use Rattle.std.specs.Prelude.{◌≡◌, true, false};
 ghost use Rattle.law.specs.Node.{Node as LawNode, restart};
 ghost use Rattle.law.specs.Run.{NewNode};
 ghost use Rattle.ledger.specs.Kept.{Kept, Blank};
+ghost use Rattle.names.specs.Changes.{nothing};
 ghost use Rattle.node.specs.Remaking.{Emptied, Wakes, Remakes, RemakesStops, RemakesStop};
 ghost use Rattle.node.specs.Shows.{Shows};
 
@@ -21,6 +22,7 @@ impl<S: Store, N: NameSet, C: Computation> Node<S, N, C> {
     pub fn new(store: S, mut names: N) -> Node<S, N, C>
         ensures blank { Blank (S.Store.model store) → (n : LawNode) × NewNode n × Shows S.Store N.NameSet C.Computation result n }
         ensures kept { (n : LawNode) → Kept (S.Store.model store) n → n.power.on ≡ false → Shows S.Store N.NameSet C.Computation result n }
+        ensures cleared { N.NameSet.meaning result.names ≡ nothing }
     {
         names.clear();
         Node {
