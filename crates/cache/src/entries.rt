@@ -5,7 +5,8 @@ mod methods;
 
 use stores::Page;
 
-// The copy of a row, or of none.
+// The copy of a row, or of none. A cache is four such entries, plain structs, of which one is lent and refreshed after a
+// commit: that is its required form, so the page stands beside the row and not in an Option with it.
 #[derive(Clone, Copy)]
 pub struct Entry {
     row: Option<usize>,

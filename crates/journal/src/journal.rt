@@ -9,7 +9,7 @@ ghost use Rattle.journal.specs.Laws.{journal_rows, journal_formatted};
 ghost use Rattle.std.proofs.Common.{rules};
 
 use model::Answer;
-use stores::{Card, Layout, OnCard, Page, Tear};
+use stores::{Card, Charge, Layout, OnCard, Page};
 
 // The last of the 33 rows.
 const LAST: u8 = 32;
@@ -18,7 +18,7 @@ pub struct JournalLayout;
 
 pub type Journal = OnCard<JournalLayout>;
 
-// Page 0 with a mark: 0, or r + 1 while page 1 stands for row r.
+// Page 0 with a mark: 0, or r + 1 while page 1 stands for row r. The mark is a byte, as the card's format keeps it.
 fn mark_page(mark: u8) -> Page
     ensures { result ≡ mark_page mark }
 {
@@ -127,8 +127,8 @@ impl Layout for JournalLayout {
         write_row(card, row, page)
     }
 
-    fn restart(card: &mut Card, left: u32, tear: Tear, junk: &Page) -> Answer {
-        card.restart(left, tear, junk);
+    fn restart(card: &mut Card, charge: Charge<'_>) -> Answer {
+        card.restart(charge);
         mend(card)
     }
 }

@@ -81,7 +81,7 @@ fn look<S: Store>(store: &mut S, answer: Answer) -> Seen {
 }
 
 // What a trial of the store answers, and what is left of the store.
-pub fn try_out<S: Store, F: FnOnce(&mut S) -> Answer>(store: &mut S, trial: F) -> Seen
+pub(crate) fn try_out<S: Store, F: FnOnce(&mut S) -> Answer>(store: &mut S, trial: F) -> Seen
     requires { F.IsAlwaysCallable trial }
 {
     prepare(store);

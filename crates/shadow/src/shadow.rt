@@ -9,7 +9,7 @@ ghost use Rattle.shadow.specs.Laws.{shadow_rows, shadow_formatted};
 ghost use Rattle.std.proofs.Common.{rules, refl};
 
 use model::Answer;
-use stores::{Card, Layout, OnCard, Page, Tear};
+use stores::{Card, Charge, Layout, OnCard, Page};
 
 // The last of the 33 rows.
 const LAST: u8 = 32;
@@ -44,7 +44,7 @@ fn switch(card: &mut Card, row: u8, page: &Page) -> Answer
     card.write_both(row, spot, page, 0, &switched)
 }
 
-// The page of a slot of a row that there is.
+// The page of a slot of a row that there is. Which slot is a byte, 0 or 1, as the card's format keeps it on page 0.
 fn slot_page(row: u8, which: u8) -> u8
     ensures { row < 33 → which < 2 → result ≡ slot row which }
 {
@@ -108,8 +108,8 @@ impl Layout for ShadowLayout {
         switch(card, row, page)
     }
 
-    fn restart(card: &mut Card, left: u32, tear: Tear, junk: &Page) -> Answer {
-        card.restart(left, tear, junk);
+    fn restart(card: &mut Card, charge: Charge<'_>) -> Answer {
+        card.restart(charge);
         Answer::Done
     }
 }

@@ -8,7 +8,7 @@ ghost use Rattle.stores.specs.Layouts.{Writes, Wakes, Formatted};
 ghost use Rattle.stores.specs.Tears.{tear_number};
 
 use crate::card::{Card, Page};
-use crate::tear::Tear;
+use crate::supply::Charge;
 use model::Answer;
 
 // What row, write and restart say of a sound card that is on, and of a row that is there, is all that a store asks of
@@ -60,8 +60,8 @@ pub trait Layout {
         ensures node_stays { (medium card.new).node ≡ (medium card.old).node };
 
     // Turns the card on, and finishes what was begun.
-    fn restart(card: &mut Card, left: u32, tear: Tear, junk: &Page) -> Answer
-        ensures wakes { ∥ sound (medium card.old) ∥₁ → ∥ sound (medium card.new) ∥₁ × Wakes (owed_restarted (meaning (medium card.old)).power left (tear_number tear)) (restart_cut (medium card.old) left) (meaning (medium card.old)) (meaning (medium card.new)) left (tear_number tear) result }
+    fn restart(card: &mut Card, charge: Charge<'_>) -> Answer
+        ensures wakes { ∥ sound (medium card.old) ∥₁ → ∥ sound (medium card.new) ∥₁ × Wakes (owed_restarted (meaning (medium card.old)).power charge.entry.left (tear_number charge.entry.tear)) (restart_cut (medium card.old) charge.entry.left) (meaning (medium card.old)) (meaning (medium card.new)) charge.entry.left (tear_number charge.entry.tear) result }
         ensures node_stays { (medium card.new).node ≡ (medium card.old).node };
 
     ghost few: { ROWS ≤ 255 };

@@ -18,5 +18,5 @@ pub use change::change_byte;
 pub use layout::Layout;
 pub use on_card::OnCard;
 pub use store::Store;
-pub use supply::Supply;
+pub use supply::{Charge, Supply};
 pub use tear::Tear;

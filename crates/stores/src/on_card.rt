@@ -10,8 +10,7 @@ ghost use Rattle.std.proofs.Common.{rules};
 use crate::card::{Card, Unfit, as_page};
 use crate::layout::Layout;
 use crate::store::Store;
-use crate::supply::Supply;
-use crate::tear::Tear;
+use crate::supply::{Charge, Supply};
 use model::Answer;
 use std::marker::PhantomData;
 
@@ -117,9 +116,9 @@ impl<L: Layout> Store for OnCard<L> {
         ensures home_stays { (medium self.new.card).node ≡ (medium self.old.card).node }
         ensures refusal_changes_nothing { refusal result ≡ true → self.new ≡ self.old }
     {
-        let (Some(junk), Ok(tear)) = (as_page(supply.junk), Tear::try_from(supply.tear)) else {
-            return Answer::OutOfRange;
-        };
-        L::restart(&mut self.card, supply.left, tear, junk)
+        match Charge::try_from(supply) {
+            Ok(charge) => L::restart(&mut self.card, charge),
+            Err(answer) => answer,
+        }
     }
 }

@@ -42,6 +42,9 @@ pub trait Store {
     fn owed(&self) -> u32
         ensures { result ≡ (model self.now).power.owed };
 
+    // Each call says what stays in clauses of its own: proofs above take them by name (`ensures.home_stays`), and they are
+    // not the same of all three calls (a read leaves the cuts too), so one record would say less plainly what each keeps.
+
     // Copies a row out. A store may remember what it read.
     fn read(&mut self, row: usize, out: &mut [u8]) -> Answer
         ensures reads { Reads (model self.old) (model self.new) row out.old out.new result }

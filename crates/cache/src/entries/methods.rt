@@ -32,10 +32,7 @@ impl Entries {
         ensures { MatchOption result (holds self.now.places row ≡ false) (λ p. (holds self.now.places row ≡ true) × (p.now ≡ copy_of self.now.places row)) }
     {
         let entry = &self.places[row % 4];
-        match entry.row {
-            Some(held) if held == row => Some(&entry.page),
-            _ => None,
-        }
+        (entry.row == Some(row)).then_some(&entry.page)
     }
 
     // Keeps a copy of a row in the place that is the row's.

@@ -4,6 +4,7 @@ ghost use Rattle.stores.specs.Cards.{medium, turned_on, failed, written, write_a
 ghost use Rattle.stores.specs.Tears.{tear_number};
 
 use super::{Card, Page};
+use crate::supply::Charge;
 use crate::tear::Tear;
 use model::{Answer, CutPoint};
 
@@ -26,7 +27,8 @@ impl Card {
         }
     }
 
-    // Writes a page on behalf of a row, which the answer names if power fails here.
+    // Writes a page on behalf of a row, which the answer names if power fails here. That the node stays follows from what
+    // the card is after it; said beside it, it spares each caller's proof the cases of that.
     pub fn write(&mut self, row: u8, page: u8, bytes: &Page) -> Answer
         ensures answer { result ≡ write_answer (medium self.old) row page }
         ensures card { medium self.new ≡ written (medium self.old) page bytes.now }
@@ -72,13 +74,13 @@ impl Card {
         }
     }
 
-    // Turns the card on, with power for so many writes.
-    pub fn restart(&mut self, left: u32, tear: Tear, junk: &Page)
-        ensures { medium self.new ≡ turned_on (medium self.old) left (tear_number tear) junk.now }
+    // Turns the card on, with this power.
+    pub fn restart(&mut self, charge: Charge<'_>)
+        ensures { medium self.new ≡ turned_on (medium self.old) charge.entry.left (tear_number charge.entry.tear) charge.entry.junk.now }
     {
         self.on = true;
-        self.left = left;
-        self.tear = tear;
-        self.junk = *junk;
+        self.left = charge.left;
+        self.tear = charge.tear;
+        self.junk = *charge.junk;
     }
 }

@@ -7,7 +7,7 @@ use Rattle.journal.proofs.journal.JournalLayoutLayout.restart.Goals as goal
 
 pub returns : goal.returns
 returns c = record {
-  wakes = λ s. wakes_woke (medium c.args.card.now) (medium c.restart.new.self) (medium c.mend.new.card) c.args.left (tear_number c.args.tear) c.args.junk.now c.mend.result
+  wakes = λ s. wakes_woke (medium c.args.card.now) (medium c.restart.new.self) (medium c.mend.new.card) c.args.charge.left (tear_number c.args.charge.tear) c.args.charge.junk.now c.mend.result
       s c.restart.ensures c.mend.ensures.mends;
   node_stays = c.mend.ensures.node_stays ∙ ap (λ (x : Medium). x.node) c.restart.ensures;
 }

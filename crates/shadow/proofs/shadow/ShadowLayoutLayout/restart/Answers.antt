@@ -5,4 +5,4 @@ use Rattle.shadow.proofs.Waking.{woke}
 use Rattle.shadow.proofs.shadow.ShadowLayoutLayout.restart.Goals as goal
 
 pub returns-clause-wakes : goal.returns-clause-wakes
-returns-clause-wakes c = woke (medium c.args.card.now) (medium c.restart.new.self) c.args.left (tear_number c.args.tear) c.args.junk.now c.restart.ensures
+returns-clause-wakes c = woke (medium c.args.card.now) (medium c.restart.new.self) c.args.charge.left (tear_number c.args.charge.tear) c.args.charge.junk.now c.restart.ensures
