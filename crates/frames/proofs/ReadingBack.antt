@@ -1,19 +1,16 @@
 -- A frame that was written is read back, wherever it stands.
-use Rattle.std.proofs.Common.{◌≡◌, ℕ, ◌<◌, ◌≤◌, Bool, true, false, cond, ltb, leb, List, ◌++◌, length, take, drop, IfOk, Some, None, Ok, Err, Result, sym, refl, ap, ◌∙◌, subst, arith}
+use Rattle.std.proofs.Common.{◌≡◌, ℕ, ◌+◌, ◌<◌, ◌≤◌, true, ltb, leb, List, ◌++◌, length, take, drop, Some, None, Ok, Err, sym, refl, ap, ◌∙◌, subst, arith}
 use Rattle.std.proofs.lemmas.List.{drop_at, length-append, take_at}
 use Rattle.std.proofs.lemmas.Bool.{cond-true, cond-false, eqb-true, lt-leb, le-ltb}
-use Rattle.std.specs.Option.{option_map}
-use Rattle.model.specs.declared.answer.Fault.{Fault}
-use Rattle.model.specs.declared.answer.Fault.TheVariants.{HeaderShort, WrongLength, BodyShort, BufferTooSmall}
-use Rattle.model.specs.declared.call.Call.{Call}
+use Rattle.model.specs.declared.answer.Fault.TheVariants.{HeaderShort, WrongLength, BodyShort}
 use Rattle.frames.specs.declared.kind.Kind.{Kind}
 use Rattle.frames.specs.declared.kind.Kind.TheVariants.{HandIn, Advance, Fire, Send, Lose, Repeat, Deliver, Pass, Restart, Show, MarkDone}
 use Rattle.model.specs.Bytes.{u16_at, u16_bytes}
-use Rattle.frames.specs.Calls.{body_of, call_of, frame_of, kind_for}
+use Rattle.frames.specs.Calls.{call_of}
 use Rattle.frames.specs.Frames.{framed}
 use Rattle.frames.specs.Kinds.{fits, kind_number, kind_of}
 use Rattle.frames.specs.Reading.{after_header, called, place_after, stands_at}
-use Rattle.frames.specs.Writing.{ReadBack, buffer_after, write_answer}
+use Rattle.frames.specs.Writing.{ReadBack}
 
 -- what is known of each kind: its number is read back, and no body is long
 pub record Known (k : Kind) : Type 0 where
@@ -68,30 +65,9 @@ read_back k body suits = record {
   passes = λ before after. ap (place_after (before ++ (framed k body ++ after)) (length before)) (stands k body suits before after) ∙ omega arith;
 }
 
--- the same of a frame that was put together otherwise
-pub read_back_as : (call : Call) (frame : List ℕ) (k : Kind) (body : List ℕ) → frame ≡ framed k body → call_of k (drop 4 frame) ≡ call
-    → fits k (length body) ≡ true → ReadBack call frame
-read_back_as call frame k body is back suits =
-    let e : call_of k body ≡ call = ap (λ bs. call_of k (drop 4 bs)) (sym is) ∙ back in
-    subst (λ c. ReadBack c frame) e (subst (λ bs. ReadBack (call_of k body) bs) (sym is) (read_back k body suits))
-
-room : (call : Call) (frame buffer : List ℕ) (small : Bool) → ReadBack call frame
-    → IfOk (cond small (Err BufferTooSmall) (Ok (length frame))) (λ n. ReadBack call (take n (cond small buffer (frame ++ drop (length frame) buffer))))
-room call frame buffer true h = tt
-room call frame buffer false h = subst (λ bs. ReadBack call bs) (sym (take_at frame (drop (length frame) buffer) (length frame) refl)) h
-
-some_same : (xs ys : List ℕ) → Some xs ≡ Some ys → xs ≡ ys
-some_same xs ys e = cc
-
--- what was put, if it was, is read back: at a call that is as_known to be `as_known`, with its frame
-pub put_back : (call as_known : Call) → call ≡ as_known → (buffer after : List ℕ) (r : Result ℕ Fault) (frame body : List ℕ)
-    → body_of as_known ≡ Some body → fits (kind_for as_known) (length body) ≡ true
-    → frame_of as_known ≡ Some frame → call_of (kind_for as_known) (drop 4 frame) ≡ as_known
-    → r ≡ write_answer (Some frame) (length buffer) → after ≡ buffer_after (Some frame) buffer → IfOk r (λ n. ReadBack call (take n after))
-put_back call as_known is buffer after r frame body is_body suits is_frame back answer holds =
-    let b : frame_of as_known ≡ Some (framed (kind_for as_known) body) = ap (λ o. option_map (framed (kind_for as_known)) o) is_body in
-    let f : frame ≡ framed (kind_for as_known) body = some_same frame (framed (kind_for as_known) body) (sym is_frame ∙ b) in
-    let h : ReadBack call frame = read_back_as call frame (kind_for as_known) body f (back ∙ sym is) suits in
-    subst (λ x. IfOk x (λ n. ReadBack call (take n after))) (sym answer)
-    (subst (λ a. IfOk (write_answer (Some frame) (length buffer)) (λ n. ReadBack call (take n a))) (sym holds)
-    (room call frame buffer (ltb (length buffer) (length frame)) h))
+-- what was written at the front of a buffer is read back
+pub put_back : (k : Kind) (body : List ℕ) → fits k (length body) ≡ true → (buffer after : List ℕ)
+    → after ≡ framed k body ++ drop (length (framed k body)) buffer → ReadBack (call_of k body) (take (4 + length body) after)
+put_back k body suits buffer after is =
+    let e : length (framed k body) ≡ 4 + length body = omega arith in
+    subst (λ bs. ReadBack (call_of k body) bs) (sym (ap (λ bs. take (4 + length body) bs) is ∙ take_at (framed k body) _ (4 + length body) e)) (read_back k body suits)

@@ -8,6 +8,8 @@ use super::frame::Frame;
 use super::kind::Kind;
 use model::{Call, Fault};
 
+// `Placed`, `Event` and `Misfit` are three, since each names what it places: one struct over a type would lose the name.
+
 // A frame, and the offset of its header.
 #[derive(Clone, Copy)]
 pub struct Placed<'a> {
