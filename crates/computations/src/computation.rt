@@ -6,6 +6,8 @@ use model::Verdict;
 
 // A computation brings its own kind of state, which it writes into 32 bytes. Each method answers as the operation of
 // the same name; the operations are lawful at every sound state, and every 32 bytes are those of a sound state.
+// `verdict` and `take` are given `w, time, amount` one by one, as the operations take them: an emission is a pair of time
+// and amount.
 pub trait Computation {
     type State: Copy;
 

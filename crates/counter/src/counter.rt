@@ -2,7 +2,7 @@
 ghost use Rattle.counter.specs.Counter.{counter as counting, CounterSound, held as holding};
 ghost use Rattle.counter.specs.Laws.{counter_lawful, counter_conserves};
 
-use super::minutes::{earliest_minute, raised_mark, sum_of};
+use super::minutes::{earliest_minute, place, raised_mark, sum_of};
 use super::state::CounterState;
 use computations::{Computation, Conserving};
 use model::Verdict;
@@ -44,7 +44,7 @@ impl Computation for Counter {
         amount: u16,
     ) -> (CounterState, Option<(u32, u16)>) {
         let mut sums = state.sums;
-        sums[(time / 60 % 4) as usize] += amount;
+        sums[place(time / 60)] += amount;
         let mark = raised_mark(state, w);
         (CounterState { mark, sums }, None)
     }
@@ -55,7 +55,7 @@ impl Computation for Counter {
         };
         let mark = 60 * (minute + 1);
         let mut sums = state.sums;
-        sums[(minute % 4) as usize] = 0;
+        sums[place(minute)] = 0;
         (
             CounterState { mark, sums },
             Some((mark, sum_of(state, minute))),

@@ -1,14 +1,21 @@
 // The open minutes of a counter's state.
-ghost use Rattle.std.specs.Prelude.{◌≡◌, ◌/◌, MatchOption};
+ghost use Rattle.std.specs.Prelude.{◌≡◌, ◌/◌, ◌%◌, MatchOption};
 ghost use Rattle.counter.specs.Counter.{sum_of, earliest, raised, Earliest, Empty};
 
 use super::state::CounterState;
+
+// Where a minute's sum is.
+pub(super) fn place(minute: u32) -> usize
+    ensures { result ≡ minute % 4 }
+{
+    (minute % 4) as usize
+}
 
 // The sum of a minute.
 pub(super) fn sum_of(state: &CounterState, minute: u32) -> u16
     ensures { result ≡ sum_of state.now minute }
 {
-    state.sums[(minute % 4) as usize]
+    state.sums[place(minute)]
 }
 
 // The earliest open minute with a sum.

@@ -4,7 +4,7 @@ ghost use Rattle.eager.specs.Eager.{eager as eagerly, EagerSound};
 ghost use Rattle.eager.specs.Laws.{eager_lawful};
 
 use super::state::EagerState;
-use computations::{Computation, padded};
+use computations::Computation;
 use model::Verdict;
 
 #[derive(Clone, Copy)]
@@ -59,16 +59,10 @@ impl Computation for Eager {
     }
 
     fn load(bytes: &[u8; 32]) -> EagerState {
-        let [a, b, c, d, some, e, f, g, h, ..] = *bytes;
-        let mark = u32::from_le_bytes([a, b, c, d]).min(4_000_000_000);
-        let due = (some != 0).then_some(u32::from_le_bytes([e, f, g, h]).min(4_000_000_000));
-        EagerState { mark, due }
+        EagerState::from(*bytes)
     }
 
     fn store(state: &EagerState) -> [u8; 32] {
-        let [a, b, c, d] = state.mark.to_le_bytes();
-        let [e, f, g, h] = state.due.unwrap_or(0).to_le_bytes();
-        let some = u8::from(state.due.is_some());
-        padded([a, b, c, d, some, e, f, g, h, 0, 0, 0])
+        <[u8; 32]>::from(*state)
     }
 }

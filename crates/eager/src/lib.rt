@@ -3,6 +3,7 @@
 #![tactic(auto)]
 
 mod eager;
+mod layout;
 mod state;
 
 pub use eager::Eager;

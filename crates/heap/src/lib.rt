@@ -1,7 +1,8 @@
 // A heap in a lent slice, for elements of any total order; the least stands first.
 //
 // Each function rearranges the slice that it is lent and keeps its elements. What it promises of the order holds where
-// the elements' `cmp` is a total order.
+// the elements' `cmp` is a total order: each clause takes one, `o`, since a clause may not name the bound's law and the
+// definitions speak of the order's totality.
 #![tactic(auto)]
 
 mod operations;

@@ -7,7 +7,9 @@ ghost use Rattle.agenda.specs.Meaning.{due_at, earliest};
 ghost use Rattle.agenda.specs.Slots.{changed, held_below};
 
 use super::Agenda;
-use crate::slots::{empty, first_in, set_in, value_in};
+use crate::slot::Slot;
+use crate::slots::{empty, place_of};
+use heap::change_at;
 
 impl<V: Ord + Copy> Agenda<V> {
     // No stop has a value.
@@ -21,21 +23,25 @@ impl<V: Ord + Copy> Agenda<V> {
     pub fn set(&mut self, stop: u16, value: Option<V>)
         ensures { held_below self.new.slots ≡ changed stop value (held_below self.old.slots) }
     {
-        set_in(&mut self.slots, stop, value);
+        if let Some(at) = place_of(&self.slots, stop) {
+            change_at(&mut self.slots, at, Slot { value, stop });
+        }
     }
 
     // The stop with the least value, and its value: ties go to the lowest stop.
     pub(crate) fn least(&self) -> Option<(u16, V)>
         ensures { result ≡ first_best (λ x y. is_lt (V.Ord.cmp x y)) (held_below self.now.slots) stops }
     {
-        first_in(&self.slots)
+        let slot = heap::least(&self.slots)?;
+        Some((slot.stop, slot.value?))
     }
 
     // The value of a stop.
     pub(crate) fn at(&self, stop: u16) -> Option<V>
         ensures { stop < stops → result ≡ held_below self.now.slots stop }
     {
-        value_in(&self.slots, stop)
+        let at = place_of(&self.slots, stop)?;
+        self.slots[at].value
     }
 }
 
