@@ -23,10 +23,7 @@ impl Taken {
     pub fn weighed(self, serial: u32, time: u32, sender: u32, stop: u32) -> u32
         ensures { result ≡ weighed serial time sender stop self }
     {
-        let Taken {
-            stop: place,
-            name,
-        } = self;
+        let Taken { stop: place, name } = self;
         name.serial
             .wrapping_mul(serial)
             .wrapping_add(name.time.wrapping_mul(time))

@@ -102,6 +102,9 @@ fn the_first_reason_is_the_answer(rt: HostRuntime) {
         (true, 6, false, asked(7, 13), Answer::Over),
         (true, 6, false, asked(7, 12), Answer::Done),
     ] {
-        assert_eq!(rt; admit::<Eager>(&state, Moment { on, w, seen }, &given), answer);
+        assert_eq!(rt;
+            admit::<Eager>(&state, Moment { on, w, seen }, &given),
+            answer
+        );
     }
 }
