@@ -12,7 +12,8 @@ pub struct CutPoint {
     pub page: u8,
 }
 
-// What a call answers. Every case but `Done` and `Cut` is a refusal.
+// What a call answers. Every case but `Done` and `Cut` is a refusal. It is an enum of its own and no `Result`, since files and
+// definitions number all fourteen, and rows may have changed at a cut.
 #[derive(Clone, Copy, PartialEq, Eq, Debug)]
 pub enum Answer {
     Done,
@@ -43,6 +44,7 @@ impl Answer {
     }
 }
 
+// By a match, since one case carries something.
 impl From<Answer> for u8 {
     ghost from_gives = { λ answer number. number ≡ answer_number answer };
 
@@ -84,7 +86,8 @@ impl From<Outcome> for Answer {
     }
 }
 
-// What a computation says of a record before it is taken.
+// What a computation says of a record before it is taken. It is an enum of its own, since the match of admission takes it
+// beside time and amount.
 #[derive(Clone, Copy, PartialEq, Eq, Debug)]
 pub enum Verdict {
     TooEarly,

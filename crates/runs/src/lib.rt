@@ -16,7 +16,7 @@ pub fn counter_and_detector_keep_the_law()
 {}
 
 // The answers of the worked run: a record handed in twice, a minute fired, its production sent, doubled on the way,
-// delivered twice and acknowledged twice.
+// delivered twice and acknowledged twice. They are numbers, as an account prints them.
 pub fn worked_answers() -> [u8; 13]
     ensures plays { Plays (happens counting) worked_calls worked_outcomes }
     ensures answers { result ≡ map (λ o. answer_number (outcome_answer o)) worked_outcomes }

@@ -22,6 +22,7 @@ pub fn take_record<C: Computation>(
     let (state, emission) = consider::<C>(row.state(), moment, given)?;
     let floor = C::mark(&state).max(moment.w);
     row.remember(floor, given.name)?;
+    // A fire ends in the same three lines; a function for both would take the row, the floor, the state and the emission.
     emit(row, emission)?;
     row.replace_state(C::store(&state));
     Ok(floor)

@@ -1,4 +1,5 @@
-// What befalls either node by its number: 0 is the collector, 1 the spotter, and there is no other.
+// What befalls either node by its number: 0 is the collector, 1 the spotter, and there is no other. A script may hold any
+// number, which is judged here; and as the two nodes differ in type, no closure serves both.
 ghost use Rattle.model.specs.declared.call.Call.TheVariants.{Fire, Restart};
 ghost use Rattle.pair.specs.Promises.{Steps, Wakes};
 
