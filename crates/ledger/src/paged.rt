@@ -1,4 +1,5 @@
-// Values that stand in a row of a store, one page each: read and committed whole.
+// Values that stand in a row of a store, one page each: read and committed whole. Each row keeps the `encode` and `decode` that
+// it has in public; the impls hand on to them.
 ghost use Rattle.std.specs.Prelude.{◌≡◌, ℕ, List, Some, length};
 ghost use Rattle.std.specs.Option.{option_map};
 ghost use Rattle.model.specs.Limits.{page_bytes};

@@ -62,7 +62,7 @@ impl<S: Store, N: NameSet, C: Computation, T: Store, O: NameSet, D: Computation>
     }
 }
 
-// A production as the spotter takes it: its sender is the stop.
+// A production as the spotter takes it: its sender is the stop. No `From`, since it takes two values.
 fn as_record(stop: u16, production: Production) -> Record
     ensures { result ≡ as_record stop production }
 {
