@@ -26,10 +26,7 @@ fn quoted(word: &[u8]) -> &str {
     if word.is_empty() {
         return "the end of the line";
     }
-    match std::str::from_utf8(word) {
-        Ok(text) => text,
-        Err(_) => "bytes that are no text",
-    }
+    std::str::from_utf8(word).unwrap_or("bytes that are no text")
 }
 
 impl<'a> fmt::Display for Failure<'a> {

@@ -18,6 +18,7 @@ fn add_frame(script: &mut Vec<u8>, call: Call<'_>) -> Result<(), AllocError>
     let mut buffer = [0; LONGEST];
     match write_frame(call, &mut buffer) {
         Ok(size) => script.extend_from_slice(&buffer[0..size]),
+        // A call that a line says always has a frame that fits; another call adds nothing.
         Err(_) => Ok(()),
     }
 }

@@ -2,6 +2,7 @@
 ghost use Rattle.std.specs.Prelude.{◌≡◌, ◌≤◌, IfSome};
 ghost use Rattle.parser.specs.Numerals.{number_of};
 
+// A loop, since the library's `parse` also takes a sign, and no word is a `str`.
 pub fn numeral(word: &[u8], most: u32) -> Option<u32>
     ensures value { result ≡ number_of most word.now }
     ensures within { IfSome result (λ n. n ≤ most) }

@@ -111,12 +111,10 @@ pub fn parse_line<'a>(line: &'a [u8]) -> Result<Option<Call<'a>>, Misread<'a>>
     if word.is_empty() {
         return Ok(None);
     }
-    let Some(kind) = kind_named(word) else {
-        return Err(Misread {
-            word,
-            wanted: Wanted::Call,
-        });
-    };
+    let kind = kind_named(word).ok_or(Misread {
+        word,
+        wanted: Wanted::Call,
+    })?;
     let call = call_of_kind(&mut words, kind)?;
     let word = words.word();
     if !word.is_empty() {
