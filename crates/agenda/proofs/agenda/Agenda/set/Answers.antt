@@ -11,11 +11,10 @@ invariant_of-self g c =
     let at = c.in-Some.at in
     let found = c.in-Some.ensures in
     let e = c.change_at.ensures in
-    let mid : List (Slot g.row.V.Denot) = set self.slots at (record { value = c.args.value; stop = c.args.stop }) in
     record {
       sized = c.change_at.auto.items ∙ self.sized;
       heaped = λ o. placed (slot_total o) c.change_at.new.items (e.heaped (slot_total o) (heaped (slot_total o) self.slots (self.heaped o)));
-      single = single_shuffled mid c.change_at.new.items e.shuffled (single_set self.slots at c.args.stop c.args.value found.0 found.1 self.single);
+      single = single_shuffled _ c.change_at.new.items e.shuffled (single_set self.slots at c.args.stop _ found.0 found.1 self.single);
     }
 
 pub returns-in-Some : goal.returns-in-Some
