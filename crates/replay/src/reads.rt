@@ -21,6 +21,7 @@ pub fn read_script<'a>(heap: Global, script: &'a [u8]) -> Result<Script<'a>, All
     while let Some(next) = reader.next_call() {
         match next {
             Ok(event) => calls.push(event.call)?,
+            // No `?`, which would lose the calls before the fault.
             Err(misfit) => {
                 return Ok(Script {
                     calls,
