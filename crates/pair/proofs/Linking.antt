@@ -1,5 +1,5 @@
 -- What the calls on the link come to. Assumes nothing.
-use Rattle.std.proofs.Common.{◌≡◌, ℕ, ◌<◌, ◌≤◌, Bool, true, false, cond, ◌||◌, ltb, leb, List, [], ◌∷◌, ◌++◌, length, Some, None, Option, sym, ap, ◌∙◌, append-nil, inl, inr, arith}
+use Rattle.std.proofs.Common.{◌≡◌, ℕ, ◌<◌, ◌≤◌, Bool, true, false, cond, ◌||◌, ltb, leb, List, [], ◌∷◌, ◌++◌, length, Some, None, Option, sym, ap, ◌∙◌, append-nil, inl, inr, arith, length-take}
 use Rattle.std.proofs.lemmas.Bool.{cond-true, leb-false, lt-ltb, le-leb}
 use Rattle.std.proofs.lemmas.List.Edits.{length-remove}
 use Rattle.std.proofs.lemmas.Option.{none-some, slice_get_cases, slice_get_within}
@@ -18,7 +18,7 @@ use Rattle.link.specs.Carried.{carried}
 
 -- a link carries no more messages than it may
 few : (l : Link) → length (carried l) ≤ most_messages
-few l = omega (arith, l.messages.within)
+few l = omega (arith, length-take l.messages.count l.messages.items, l.messages.within)
 
 -- where there is no message, none lies past it
 pub nothing_there : (ms : List Message) (i : ℕ) → slice_get ms i ≡ None → length ms ≤ i
