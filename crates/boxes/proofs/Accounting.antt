@@ -1,10 +1,8 @@
 -- The account of a script on two new boxes. Assumes nothing.
 use Rattle.std.proofs.Common.{◌≡◌, IfErr, Ok, Err, Result, refl, ap}
-use Rattle.stores.specs.Cards.{medium}
+use Rattle.stores.specs.Cards.{Medium}
 use Rattle.journal.specs.Layout.{meaning}
-use Rattle.journal.specs.declared.journal.Journal.{Journal}
 use Rattle.shadow.specs.Layout.{meaning as shadow_meaning}
-use Rattle.shadow.specs.declared.shadow.Shadow.{Shadow}
 use Rattle.ledger.specs.Kept.{Blank}
 use Rattle.pair.specs.declared.pair.Stopped.{Stopped}
 use Rattle.pair.specs.declared.pair.Stopped.TheVariants.{NoMemory, Damaged}
@@ -17,8 +15,8 @@ only_memory (Err NoMemory) damage never = refl
 only_memory (Err Damaged) damage never = absurd (never (damage refl))
 
 -- formatted stores are blank
-pub journal_blank : (s : Journal) → JournalReady s → Blank (meaning (medium s.card))
-journal_blank s ready = record { rows = ap (λ m. m.rows) ready.means; off = ap (λ m. m.power.on) ready.means }
+pub journal_blank : (m : Medium) → JournalReady m → Blank (meaning m)
+journal_blank m ready = record { rows = ap (λ x. x.rows) ready.means; off = ap (λ x. x.power.on) ready.means }
 
-pub shadow_blank : (s : Shadow) → ShadowReady s → Blank (shadow_meaning (medium s.card))
-shadow_blank s ready = record { rows = ap (λ m. m.rows) ready.means; off = ap (λ m. m.power.on) ready.means }
+pub shadow_blank : (m : Medium) → ShadowReady m → Blank (shadow_meaning m)
+shadow_blank m ready = record { rows = ap (λ x. x.rows) ready.means; off = ap (λ x. x.power.on) ready.means }

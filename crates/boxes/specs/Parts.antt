@@ -1,14 +1,12 @@
 -- The stores of the two boxes, as formatting leaves them. Assumes nothing.
-use Rattle.stores.specs.Cards.{medium}
+use Rattle.stores.specs.Cards.{Medium}
 use Rattle.journal.specs.Layout.{Formatted}
-use Rattle.journal.specs.declared.journal.Journal.{Journal}
 use Rattle.shadow.specs.Layout.{Formatted as ShadowFormatted}
-use Rattle.shadow.specs.declared.shadow.Shadow.{Shadow}
 
--- a formatted journal store over node 0's card
-abbrev pub JournalReady : Journal → Type 0
-JournalReady s = Formatted 0 (medium s.card)
+-- node 0's card, formatted for a journal store
+abbrev pub JournalReady : Medium → Type 0
+JournalReady m = Formatted 0 m
 
--- a formatted shadow store over node 1's card
-abbrev pub ShadowReady : Shadow → Type 0
-ShadowReady s = ShadowFormatted 1 (medium s.card)
+-- node 1's card, formatted for a shadow store
+abbrev pub ShadowReady : Medium → Type 0
+ShadowReady m = ShadowFormatted 1 m

@@ -1,5 +1,6 @@
 // What the two boxes are made of. All their memory is had here.
 ghost use Rattle.std.specs.Prelude.{IfOk};
+ghost use Rattle.stores.specs.Cards.{medium};
 ghost use Rattle.boxes.specs.Parts.{JournalReady, ShadowReady};
 
 use bloom::Bloom;
@@ -25,8 +26,8 @@ pub struct Parts {
 
 // Two formatted cards, node 0's and node 1's, with their stores, and two name sets.
 pub fn new_parts(heap: Global) -> Result<Parts, AllocError>
-    ensures collector { IfOk result (λ p. JournalReady p.collector_store.below) }
-    ensures spotter { IfOk result (λ p. ShadowReady p.spotter_store) }
+    ensures collector { IfOk result (λ p. JournalReady (medium p.collector_store.below.card)) }
+    ensures spotter { IfOk result (λ p. ShadowReady (medium p.spotter_store.card)) }
 {
     let collector_store = Cached::new(Journal::format(Card::blank(heap, 0, 35)?).unwrap());
     let collector_names = Bloom::new(heap, SortedNames::new(heap)?)?;

@@ -10,7 +10,7 @@ returns c =
     let journal = c.in_ok-parts.ensures.collector in
     let shadow = c.in_ok-parts.ensures.spotter in
     let made = MatchResult-at_ok _ _ _ c.unwrap-boxes.ensures c.new.ensures in
-    let new = made.blank (journal_blank parts.collector_store.below journal) (shadow_blank parts.spotter_store shadow) in
+    let new = made.blank (journal_blank _ journal) (shadow_blank _ shadow) in
     record {
       account = IfOk-weaker c.replay.result _ _ (λ t replays.
           let x = replays [] new.0 new.1 new.2 in
