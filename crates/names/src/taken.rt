@@ -40,7 +40,8 @@ impl Taken {
 }
 
 // By stop, then by time: so a stop's names below a floor stand side by side. A derive would go by the order of `Name`, which
-// is public and begins with the sender.
+// is public and begins with the sender. Each part is looked at only where those before it are equal: a search makes many
+// of these comparisons, and `then` would make all four.
 impl Ord for Taken {
     ghost cmp = { taken_cmp };
 
@@ -51,11 +52,15 @@ impl Ord for Taken {
     ghost matches_eq = { Prim.search (comparing, rules) };
 
     fn cmp(&self, other: &Taken) -> Ordering {
-        self.stop
-            .cmp(&other.stop)
-            .then(self.name.time.cmp(&other.name.time))
-            .then(self.name.serial.cmp(&other.name.serial))
-            .then(self.name.sender.cmp(&other.name.sender))
+        if self.stop != other.stop {
+            self.stop.cmp(&other.stop)
+        } else if self.name.time != other.name.time {
+            self.name.time.cmp(&other.name.time)
+        } else if self.name.serial != other.name.serial {
+            self.name.serial.cmp(&other.name.serial)
+        } else {
+            self.name.sender.cmp(&other.name.sender)
+        }
     }
 }
 

@@ -1,5 +1,6 @@
-// Searching the table, which halves what is left.
-ghost use Rattle.std.specs.Prelude.{◌≡◌, ◌<◌, ◌≤◌, true, length, MatchResult};
+// Searching the table, which halves what is left, and closing a gap in it.
+ghost use Rattle.std.specs.Prelude.{◌≡◌, ◌<◌, ◌≤◌, true, length, vec_len, vec_capacity, MatchResult};
+ghost use Rattle.std.specs.List.{remove_range};
 ghost use Rattle.names.specs.Held.{listed};
 ghost use Rattle.sorted_names.specs.Order.{Climbs, Splits, Absent};
 
@@ -20,4 +21,17 @@ pub(super) fn find(items: &[Taken], taken: Taken) -> Result<usize, usize>
     ensures finds { MatchResult result (λ _. listed items.now taken.stop taken.name ≡ true) (λ i. Absent items.now taken.stop taken.name i) }
 {
     items.binary_search(&taken)
+}
+
+// Takes out what stands from one place up to another, and moves what follows down.
+pub(super) fn close_gap(items: &mut Vec<Taken>, from: usize, to: usize)
+    requires { (from ≤ to) × (to ≤ vec_len items.old) }
+    ensures items { items.new.items ≡ remove_range items.old.items from to }
+    ensures room { vec_capacity items.new ≡ vec_capacity items.old }
+{
+    if from < to {
+        let len = items.len();
+        items.copy_within(to..len, from);
+        items.truncate(len - (to - from));
+    }
 }

@@ -7,7 +7,7 @@ ghost use Rattle.sorted_names.specs.Table.{sorted_meaning};
 ghost use Rattle.sorted_names.specs.Apart.{climbs_apart};
 
 use super::SortedNames;
-use crate::order::{find, place_of};
+use crate::order::{close_gap, find, place_of};
 use model::{Answer, Name};
 use names::{NameSet, Taken};
 use std::alloc::{AllocError, Global};
@@ -69,7 +69,7 @@ impl NameSet for SortedNames {
     fn drop_below(&mut self, stop: u16, floor: u32) {
         let from = place_of(&self.items, &first_at(stop, 0));
         let to = place_of(&self.items, &first_at(stop, floor));
-        drop(self.items.drain(from..to));
+        close_gap(&mut self.items, from, to);
     }
 
     fn clear(&mut self) {

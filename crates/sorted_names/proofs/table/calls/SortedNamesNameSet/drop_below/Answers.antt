@@ -1,5 +1,4 @@
-use Rattle.std.proofs.Common.{◌≡◌, length, vec_items, sym, ap, ◌∙◌, subst, arith}
-use Rattle.std.specs.List.{remove_range}
+use Rattle.std.proofs.Common.{length, sym, ap, ◌∙◌, subst, arith}
 use Rattle.names.specs.Held.{listed}
 use Rattle.sorted_names.specs.Order.{Climbs}
 use Rattle.sorted_names.proofs.Climbing.{splits_lent, climbs_closed}
@@ -11,13 +10,13 @@ invariant_of-self c =
     let table = c.args.self.now in
     let low = splits_lent c.deref.ensures.value c.first_at.ensures c.place_of-from.ensures in
     let high = splits_lent c.deref-2.ensures.value c.first_at-2.ensures c.place_of-to.ensures in
-    let items : vec_items c.drop.new.self.0 ≡ remove_range (vec_items table.items) c.place_of-from.result c.place_of-to.result = c.drop.ensures.items ∙ c.drain.ensures.kept in
+    let items = c.close_gap.ensures.items in
     record {
-      roomy = omega (arith, c.drop.ensures.capacity, c.drain.ensures.capacity, table.roomy);
+      roomy = omega (arith, c.close_gap.ensures.room, table.roomy);
       few =
           let fewer = closed_short _ _ _ _ _ low high in
           let size = ap length items in
-          omega (arith, fewer, size, c.drop.new.self.0.ok.0, table.items.ok.0, table.few);
+          omega (arith, fewer, size, c.close_gap.new.items.ok.0, table.items.ok.0, table.few);
       climbs = subst Climbs (sym items) (climbs_closed _ _ _ (in_turn _ _ _ _ _ low high) high.within table.climbs);
     }
 
@@ -25,4 +24,4 @@ pub returns : goal.returns
 returns c =
     let low = splits_lent c.deref.ensures.value c.first_at.ensures c.place_of-from.ensures in
     let high = splits_lent c.deref-2.ensures.value c.first_at-2.ensures c.place_of-to.ensures in
-    record { held = ap listed (c.drop.ensures.items ∙ c.drain.ensures.kept) ∙ closed_holds _ _ _ _ _ low high (in_turn _ _ _ _ _ low high) }
+    record { held = ap listed c.close_gap.ensures.items ∙ closed_holds _ _ _ _ _ low high (in_turn _ _ _ _ _ low high) }
