@@ -3,3 +3,4 @@ mod Encoding
 pub mod Places
 pub mod RowBytes
 pub mod WatermarkBytes
+mod Remembering

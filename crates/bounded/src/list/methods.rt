@@ -61,12 +61,11 @@ impl<T: Copy, const N: usize> Bounded<T, N> {
         ensures item { result ≡ slice_get (listed self.old) place }
         ensures items { listed self.new ≡ (if nat_lt place (length (listed self.old)) then remove (listed self.old) place else listed self.old) }
     {
-        let all = self.as_slice();
-        let item = *all.get(place)?;
-        let mut rest = Bounded::new(item);
-        rest.extend(&all[0..place]);
-        rest.extend(&all[place + 1..]);
-        *self = rest;
+        let item = *self.as_slice().get(place)?;
+        let before = self.emptied();
+        let all = before.as_slice();
+        self.extend(&all[0..place]);
+        self.extend(&all[place + 1..]);
         Some(item)
     }
 
@@ -75,21 +74,31 @@ impl<T: Copy, const N: usize> Bounded<T, N> {
         requires { F.IsAlwaysCallable keep }
         ensures { (test : T → Bool) → ((x : T) (b : Bool) → FnReturnsAt F.Fn keep x b → b ≡ test x) → listed self.new ≡ filter test (listed self.old) }
     {
-        let all = self.as_slice();
-        let Some(filler) = all.first() else { return };
-        let mut kept = Bounded::new(*filler);
-        for item in all {
-            let passes = keep(item);
+        let before = self.emptied();
+        for old in before.as_slice() {
+            let passes = keep(old);
             if passes {
-                let _ = kept.push(*item);
+                let _ = self.push(*old);
             }
         }
-        *self = kept;
     }
 
     pub fn clear(&mut self)
         ensures { listed self.new ≡ [] }
     {
         self.count = 0;
+    }
+
+    // The list as it was; it is empty now. So what stays of it goes back with neither a filler nor a second copy.
+    fn emptied(&mut self) -> Bounded<T, N>
+        ensures before { listed result ≡ listed self.old }
+        ensures none { listed self.new ≡ [] }
+    {
+        let before = Bounded {
+            items: self.items,
+            count: self.count,
+        };
+        self.clear();
+        before
     }
 }

@@ -32,11 +32,8 @@ impl StopRow {
         ensures room { result ≡ (if nat_lt (staying floor (row_of self.old)) most_names then Ok tt else Err Full) }
         ensures after { row_of self.new ≡ (if nat_lt (staying floor (row_of self.old)) most_names then remembering floor name (row_of self.old) else row_of self.old) }
     {
-        if self.staying(floor) >= 40 {
-            return Err(Answer::Full);
-        }
+        // Where forty stay, none has fallen: the row is as it was.
         self.forget(floor);
-        let _ = self.names.push(name);
-        Ok(())
+        self.names.push(name).map_err(|_| Answer::Full)
     }
 }

@@ -6,17 +6,17 @@ use Rattle.bounded.proofs.Cuts.{kept_more}
 use Rattle.bounded.proofs.list.Bounded.retain.Goals as goal
 use Rattle.bounded.proofs.list.Bounded.retain.Goals.{then-passes, else-passes}
 
-pub loop-item-preserved : goal.loop-item-preserved
-loop-item-preserved g c = λ test says.
-    let more = kept_more g.row.N test c.as_slice-all.result.now (listed c.loop-item.kept) c.loop-item.item-index c.item-item.result
-    c.loop-item-test.true c.as_slice-all.ensures.bound c.item-item.is (c.loop-item.invariant test says) in
-    let said = says c.item-item.result c.keep-passes.result (says_at g.F.Fn c.keep-passes.ensures refl) in
+pub loop-old-preserved : goal.loop-old-preserved
+loop-old-preserved g c = λ test says.
+    let more = kept_more g.row.N test c.as_slice-old-items.result.now (listed c.loop-old.self) c.loop-old.old-index c.old-item.result
+    c.loop-old-test.true c.as_slice-old-items.ensures.bound c.old-item.is (c.loop-old.invariant test says) in
+    let said = says c.old-item.result c.keep-passes.result (says_at g.F.Fn c.keep-passes.ensures refl) in
     elim c.if-passes.branch [
-      | then-passes w ↦ ap listed w.kept-is ∙ w.push.ensures.items ∙ more true (sym w.if-passes.true ∙ said)
-      | else-passes w ↦ ap listed w.kept-is ∙ more false (sym w.if-passes.false ∙ said)
+      | then-passes w ↦ ap listed w.self-is ∙ w.push.ensures.items ∙ more true (sym w.if-passes.true ∙ said)
+      | else-passes w ↦ ap listed w.self-is ∙ more false (sym w.if-passes.false ∙ said)
     ]
 
 pub returns : goal.returns
 returns g c = λ test says.
-    c.loop-item.invariant test says
-    ∙ ap (filter test) (take_all c.loop-item.item-index c.as_slice-all.result.now c.loop-item-test.false ∙ c.as_slice-all.ensures.value)
+    c.loop-old.invariant test says
+    ∙ ap (filter test) (take_all c.loop-old.old-index c.as_slice-old-items.result.now c.loop-old-test.false ∙ c.as_slice-old-items.ensures.value ∙ c.emptied-before.ensures.before)
