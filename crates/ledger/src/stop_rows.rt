@@ -25,6 +25,8 @@ impl Paged for StopRow {
         self.encode()
     }
 
+    // Inlined, as a row is large: each function that hands it on would move it once more.
+    #[inline(always)]
     fn from_page(bytes: &[u8; 512]) -> Option<StopRow> {
         StopRow::decode(bytes)
     }

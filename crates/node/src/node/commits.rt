@@ -19,6 +19,8 @@ impl<S: Store, N: NameSet, C: Computation> Node<S, N, C> {
         self.store.is_on()
     }
 
+    // Inlined, as a row is large: handed on by a call it would be moved once more.
+    #[inline(always)]
     pub(crate) fn row(&mut self, stop: u16) -> Result<StopRow, Damaged>
         ensures { Read S.Store N.NameSet C.Computation self.old self.new stop result }
     {
