@@ -23,7 +23,8 @@ impl<V: Ord> PartialOrd for Slot<V> {
 }
 
 // By the value, none behind all, then by the stop. By hand: a derive would put none first, or take each value as
-// `Reverse<Option<Reverse<V>>>`, which every use has to wrap and unwrap twice.
+// `Reverse<Option<Reverse<V>>>`, which every use has to wrap and unwrap twice. A stop is looked at only where the values
+// are equal.
 impl<V: Ord> Ord for Slot<V> {
     ghost cmp = { slot_order V.cmp };
 
@@ -34,9 +35,12 @@ impl<V: Ord> Ord for Slot<V> {
     ghost matches_eq = { slot_same V.eq V.cmp V.matches_eq };
 
     fn cmp(&self, other: &Slot<V>) -> Ordering {
-        let none_last = self.value.is_none().cmp(&other.value.is_none());
-        none_last
-            .then(self.value.cmp(&other.value))
-            .then(self.stop.cmp(&other.stop))
+        let by_value = match (&self.value, &other.value) {
+            (Some(x), Some(y)) => x.cmp(y),
+            (Some(_), None) => Ordering::Less,
+            (None, Some(_)) => Ordering::Greater,
+            (None, None) => Ordering::Equal,
+        };
+        by_value.then_with(|| self.stop.cmp(&other.stop))
     }
 }
